@@ -1,0 +1,2 @@
+-- What follows from the rules. The modules tell the story in this order.
+pub mod Example

@@ -1,0 +1,135 @@
+-- Facts of the lists of `rules`, over any size.
+use mathlib.Core.Path.{_≡_, refl, ap, sym, _∙_}
+use mathlib.Core.Bool.{Bool, true, false, _||_, true≢false}
+use mathlib.Core.Logic.{_⊎_, inl, inr, ⊎-elim}
+use mathlib.Core.List.{List, [], _∷_, _++_, append-nil, append-assoc}
+use Prim.Native.Nat.{ℕ, zero, suc, _+_, _≤_, _<_}
+use native.Mathlib.Numerals.{add-one}
+use native.Mathlib.Omega.{arith}
+use native.Mathlib.Decide.{decLe}
+use borrow.Author.Tests.{eq-eqb, ne-eqb, eqb-true}
+use lib.Dec.{eqb}
+use lib.ListN.{length, take, drop, getD, length-append}
+use lib.Seq.{drop-cons, take-append-seam}
+use Rattle.rules.specs.Lists.{member, some?, owned, unless, freeBelow, firstEmpty}
+
+-- Tests.
+pub if-not : (b : Bool) → (b ≡ true → ⊥) → b ≡ false
+if-not true h = absurd (h refl)
+if-not false h = refl
+
+pub or-cases : (a b : Bool) → a || b ≡ true → (a ≡ true) ⊎ (b ≡ true)
+or-cases true b e = inl refl
+or-cases false b e = inr e
+
+pub or-true : (a : Bool) {b : Bool} → b ≡ true → a || b ≡ true
+or-true true e = refl
+or-true false e = e
+
+pub or-left : (a b : Bool) → a || b ≡ false → a ≡ false
+or-left true b e = e
+or-left false b e = refl
+
+pub or-right : (a b : Bool) → a || b ≡ false → b ≡ false
+or-right true b e = absurd (true≢false e)
+or-right false b e = e
+
+-- Going down a list.
+pub member-here : (x : ℕ) (l : List ℕ) (j : ℕ) → j < length l → x ≡ getD l j 0 → member x (drop j l) ≡ true
+unfolding member
+member-here x l j h e = rw (drop-cons l j 0) (rw (eq-eqb _ _ e))
+
+pub member-on : (x : ℕ) (l : List ℕ) (j : ℕ) → j < length l → (x ≡ getD l j 0 → ⊥) → member x (drop j l) ≡ member x (drop (j + 1) l)
+unfolding member
+member-on x l j h e = rw (drop-cons l j 0, add-one) (rw (ne-eqb _ _ e))
+
+pub owned-here : (p : ℕ) (ls : List (List ℕ)) (j : ℕ) → j < length ls → member p (getD ls j []) ≡ true → owned p (drop j ls) ≡ true
+unfolding owned
+owned-here p ls j h m = rw (drop-cons ls j []) (rw m)
+
+pub owned-on : (p : ℕ) (ls : List (List ℕ)) (j : ℕ) → j < length ls → member p (getD ls j []) ≡ false → owned p (drop j ls) ≡ owned p (drop (j + 1) ls)
+unfolding owned
+owned-on p ls j h m = rw (drop-cons ls j [], add-one) (rw m)
+
+-- One page more.
+pub free-owned : (n : ℕ) (ls : List (List ℕ)) → owned n ls ≡ true → freeBelow (n + 1) ls ≡ freeBelow n ls
+unfolding freeBelow unless
+free-owned n ls h = rw (add-one, h) (append-nil _)
+
+pub free-more : (n : ℕ) (ls : List (List ℕ)) → owned n ls ≡ false → freeBelow (n + 1) ls ≡ freeBelow n ls ++ (n ∷ [])
+unfolding freeBelow unless
+free-more n ls h = rw (add-one, h)
+
+pub count-owned : (n : ℕ) (ls : List (List ℕ)) → owned n ls ≡ true → length (freeBelow (n + 1) ls) ≡ length (freeBelow n ls)
+count-owned n ls h = ap length (free-owned n ls h)
+
+pub count-more : (n : ℕ) (ls : List (List ℕ)) → owned n ls ≡ false → length (freeBelow (n + 1) ls) ≡ length (freeBelow n ls) + 1
+count-more n ls h = ap length (free-more n ls h) ∙ length-append (freeBelow n ls) (n ∷ [])
+
+-- The free pages below p are the first of those below n.
+pub free-split : (n p : ℕ) (ls : List (List ℕ)) → p ≤ n → (rest : List ℕ) × (freeBelow n ls ≡ freeBelow p ls ++ rest)
+unfolding freeBelow
+free-split zero p ls h = let e : p ≡ 0 = omega arith in ([], rw e)
+free-split (suc n) p ls h = go (free-split n p ls) (decLe p n)
+  where
+    go : (p ≤ n → (rest : List ℕ) × (freeBelow n ls ≡ freeBelow p ls ++ rest)) → Dec (p ≤ n)
+        → (rest : List ℕ) × (freeBelow (suc n) ls ≡ freeBelow p ls ++ rest)
+    go f (yes q) = (f q .0 ++ unless (owned n ls) n, rw (f q .1) (append-assoc (freeBelow p ls) (f q .0) (unless (owned n ls) n)))
+    go f (no q) = let e : p ≡ suc n = omega arith in ([], rw e (sym (append-nil (freeBelow (suc n) ls))))
+
+pub free-front : (n p : ℕ) (ls : List (List ℕ)) → p ≤ n → take (length (freeBelow p ls)) (freeBelow n ls) ≡ freeBelow p ls
+free-front n p ls h = let w = free-split n p ls h in rw (w .1) (take-append-seam _ _)
+
+-- The place of the first empty list, going down the lists.
+pub first-here : (ls : List (List ℕ)) (j : ℕ) → j < length ls → some? (getD ls j []) ≡ false → firstEmpty (drop j ls) ≡ 0
+unfolding firstEmpty some?
+first-here ls j h e = rw (drop-cons ls j []) (go (getD ls j []) e)
+  where
+    go : (l : List ℕ) → some? l ≡ false → firstEmpty (l ∷ drop (suc j) ls) ≡ 0
+    go [] f = refl
+    go (x ∷ xs) f = absurd (true≢false f)
+
+pub first-on : (ls : List (List ℕ)) (j : ℕ) → j < length ls → some? (getD ls j []) ≡ true → firstEmpty (drop j ls) ≡ firstEmpty (drop (j + 1) ls) + 1
+unfolding firstEmpty some?
+first-on ls j h e = rw (drop-cons ls j [], add-one j) (go (getD ls j []) e)
+  where
+    go : (l : List ℕ) → some? l ≡ true → firstEmpty (l ∷ drop (suc j) ls) ≡ firstEmpty (drop (suc j) ls) + 1
+    go [] f = absurd (true≢false (sym f))
+    go (x ∷ xs) f = sym (add-one _)
+
+-- Membership.
+pub member-cases : (x y : ℕ) (ys : List ℕ) → member x (y ∷ ys) ≡ true → (x ≡ y) ⊎ (member x ys ≡ true)
+unfolding member
+member-cases x y ys e = ⊎-elim (λ t. inl (eqb-true x y t)) inr (or-cases (eqb x y) (member x ys) e)
+
+pub member-first : (x : ℕ) (ys : List ℕ) → member x (x ∷ ys) ≡ true
+unfolding member
+member-first x ys = rw (eq-eqb x x refl)
+
+pub member-later : (x y : ℕ) (ys : List ℕ) → member x ys ≡ true → member x (y ∷ ys) ≡ true
+unfolding member
+member-later x y ys e = or-true (eqb x y) e
+
+pub member-append : (x : ℕ) (s t : List ℕ) → member x (s ++ t) ≡ true → (member x s ≡ true) ⊎ (member x t ≡ true)
+unfolding member
+member-append x [] t e = inr e
+member-append x (y ∷ s) t e =
+    ⊎-elim (λ p. inl (rw (eq-eqb x y p))) (λ m. ⊎-elim (λ a. inl (or-true (eqb x y) a)) inr (member-append x s t m)) (member-cases x y (s ++ t) e)
+
+pub member-take : (x n : ℕ) (l : List ℕ) → member x (take n l) ≡ true → member x l ≡ true
+unfolding member
+member-take x zero l e = absurd (true≢false (sym e))
+member-take x (suc n) [] e = e
+member-take x (suc n) (y ∷ ys) e = ⊎-elim (λ p. rw (eq-eqb x y p)) (λ m. or-true (eqb x y) (member-take x n ys m)) (member-cases x y (take n ys) e)
+
+-- What is listed as free is below the bound, and no list has it.
+pub member-free : (n : ℕ) (ls : List (List ℕ)) (p : ℕ) → member p (freeBelow n ls) ≡ true → (p < n) × (owned p ls ≡ false)
+unfolding freeBelow member unless
+member-free zero ls p e = absurd (true≢false (sym e))
+member-free (suc n) ls p e =
+    ⊎-elim (λ m. let w = member-free n ls p m in (omega (arith, w .0), w .1)) (last (owned n ls) refl) (member-append p (freeBelow n ls) (unless (owned n ls) n) e)
+  where
+    last : (b : Bool) → owned n ls ≡ b → member p (unless b n) ≡ true → (p < suc n) × (owned p ls ≡ false)
+    last true o m = absurd (true≢false (sym m))
+    last false o m =
+        ⊎-elim (λ e. (omega (arith, e), ap (λ (k : ℕ). owned k ls) e ∙ o)) (λ f. absurd (true≢false (sym f))) (member-cases p n [] m)

@@ -1,0 +1,63 @@
+-- Document 01's plausible slips, each ruled out by a short law of the rules. (A must-fail edit reaches its own crate only, so these stand here and not in `laws`.)
+use mathlib.Core.Path.{_≡_, refl, ap, sym, _∙_}
+use mathlib.Core.Bool.{Bool, true, false, cond}
+use mathlib.Core.List.{List, [], _∷_}
+use Prim.Native.Nat.{ℕ, zero, suc, _≤_, _<_}
+use native.Mathlib.Omega.{arith}
+use borrow.Author.Tests.{le-leb, eq-eqb}
+use lib.Dec.{eqb}
+use lib.ListN.{length, getD, set, take}
+use lib.Seq.{getD-set-same, getD-set-other}
+use Rattle.rules.specs.Bits.{bit, lowByte, highByte, wordOf, wordAt}
+use Rattle.rules.specs.Lists.{firstEmpty, some?}
+use Rattle.rules.specs.Chip.{Chip, size, pagesAt, free}
+use Rattle.rules.specs.Answers.{Step, refuse}
+use Rattle.rules.specs.Mmu.{perform, allocate, removeAndRelease}
+use Rattle.rules.specs.Data.{against, oddFixed, past, ifOpen}
+use Rattle.rules.specs.Crc.{crcBit, crcBits, crcFrom, crc, hash}
+use Rattle.rules.specs.Receive.{Frame, countOf, image}
+use Rattle.rules.specs.Send.{Send, tally, counted, nibble}
+
+-- 80h gives back the pages of the RX head and of no other packet, whatever the packet number register says.
+pub head-alone : (c : Chip) (k : ℕ) (ks : List ℕ) → c .pool .rx ≡ k ∷ ks → (j : ℕ) → (j ≡ k → ⊥) → pagesAt (perform removeAndRelease c .chip) j ≡ pagesAt c j
+unfolding perform
+head-alone c k ks e j d = rw e (getD-set-other (c .pool .pages) k j [] [] d)
+
+-- A number below the lowest unallocated one is allocated.
+pub lowest : (ls : List (List ℕ)) (j : ℕ) → j < firstEmpty ls → some? (getD ls j []) ≡ true
+unfolding firstEmpty some?
+lowest [] j h = absurd (omega arith)
+lowest ([] ∷ ls) j h = absurd (omega arith)
+lowest ((p ∷ ps) ∷ ls) zero h = refl
+lowest ((p ∷ ps) ∷ ls) (suc j) h = lowest ls j (omega arith)
+
+-- The allocation result names the packet that has the granted pages: no page number.
+pub result-has : (c : Chip) (n : ℕ) → n ≤ length (free c) → firstEmpty (c .pool .pages) < size c
+    → pagesAt (perform (allocate n) c .chip) (perform (allocate n) c .chip .regs .result) ≡ take n (free c)
+unfolding perform
+result-has c n h k = rw (le-leb n (length (free c)) h) (getD-set-same (c .pool .pages) (firstEmpty (c .pool .pages)) (take n (free c)) [] k)
+
+-- A word's lower byte comes first.
+pub word-again : (x : ℕ) → x < 65536 → wordOf (lowByte x) (highByte x) ≡ x
+unfolding wordOf lowByte highByte
+word-again x h = omega arith
+
+-- The byte count stands at addresses 2 and 3 of a stored frame.
+pub count-stored : (f : Frame) (n : ℕ) → countOf n < 65536 → wordAt 2 (image f n) ≡ countOf n
+unfolding image wordAt
+count-stored f n h = word-again (countOf n) h
+
+-- The hash of the third example of data sheet 003, 100 111: no bit of it is turned round.
+pub hash-in-order : hash (0x01 ∷ 0 ∷ 0 ∷ 0 ∷ 0 ∷ 0 ∷ []) ≡ 0b100111
+unfolding hash crc crcFrom crcBits crcBit
+hash-in-order = refl
+
+-- A failed send after one collision and with no deferral counts in no nibble.
+pub failed-single : (s : Send) (ecr : ℕ) → s .collisions ≡ 1 → s .deferral ≡ 0 → tally false s ecr ≡ nibble 0 ecr ∷ nibble 1 ecr ∷ nibble 2 ecr ∷ nibble 3 ecr ∷ []
+unfolding tally counted
+failed-single s ecr a b = rw (a, b)
+
+-- Refusal 8 comes before 9 and 10.
+pub eight-first : (isRead : Bool) (width : ℕ) (pages : List ℕ) (c : Chip) (s : Step) → against isRead (c .regs .pointer) ≡ true → ifOpen isRead width pages c s ≡ refuse 8 c
+unfolding ifOpen
+eight-first isRead width pages c s h = rw h

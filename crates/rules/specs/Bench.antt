@@ -1,0 +1,108 @@
+-- Document 01, "Bench program and its records".
+use mathlib.Core.Bool.{Bool, true, false, cond, _&&_}
+use mathlib.Core.List.{List, [], _∷_, _++_}
+use Prim.Native.Nat.{ℕ, zero, suc, _+_, _*_, _/_, _%_}
+use lib.Dec.{eqb, leb, ltb}
+use lib.ListN.{length, getD, take, drop, replicate}
+use Rattle.rules.specs.Bits.{bit, wordOf}
+use Rattle.rules.specs.Chip.{Chip, powerUp}
+use Rattle.rules.specs.Answers.{Reply, done, refusal}
+use Rattle.rules.specs.Registers.{Access, read, write, byte, word}
+use Rattle.rules.specs.Receive.{Frame}
+use Rattle.rules.specs.Send.{Send}
+use Rattle.rules.specs.Step.{Input, driver, frame, sent, step}
+
+-- what a record asks for
+pub data Event : Type 0 where
+  access : Access → Event
+  -- byte 1's count, and the wire bytes behind it
+  wire : ℕ → List ℕ → Event
+  -- the two flags: bad CRC, alignment
+  frameEnds : Bool → Bool → Event
+  send : Send → Event
+  unknown : Event
+
+-- the record's byte k
+abbrev pub at : List ℕ → ℕ → ℕ
+at bytes k = getD bytes k 0
+
+abbrev pub valueIn : List ℕ → ℕ
+valueIn bytes = wordOf (at bytes 2) (at bytes 3)
+
+-- "Byte 0: 1 read byte, 2 read word, 3 write byte, 4 write word (offset, value low, high); 5 wire bytes; 6 frame ends; 7 send"
+unfoldable pub eventOf : List ℕ → Event
+eventOf b =
+    cond (eqb (at b 0) 1) (access (read byte (at b 1)))
+    (cond (eqb (at b 0) 2) (access (read word (at b 1)))
+    (cond (eqb (at b 0) 3) (access (write byte (at b 1) (valueIn b)))
+    (cond (eqb (at b 0) 4) (access (write word (at b 1) (valueIn b)))
+    (cond (eqb (at b 0) 5) (wire (at b 1) (drop 2 b))
+    (cond (eqb (at b 0) 6) (frameEnds (bit 0 (at b 1)) (bit 1 (at b 1)))
+    (cond (eqb (at b 0) 7) (send (record { outcome = at b 1; collisions = at b 2; deferral = at b 3 })) unknown))))))
+
+-- the chip, the wire bytes gathered so far, and the output buffer
+pub record Bench : Type 0 where
+  pub chip : Chip
+  pub gathered : List ℕ
+  pub output : List ℕ
+
+abbrev pub started : Bench
+started = record { chip = powerUp; gathered = []; output = replicate 2048 0 }
+
+pub record Answered : Type 0 where
+  pub reply : Reply
+  pub bench : Bench
+
+-- a step of the chip, after which so many wire bytes are gathered
+abbrev pub stepped : Input → List ℕ → Bench → Answered
+stepped i left b = let t = step i (b .chip) (b .output) in record { reply = t .reply; bench = record { chip = t .chip; gathered = left; output = t .output } }
+
+-- "count 1 to 6, then bytes; 11 if the count is wrong or more than 2,048 would gather"
+unfoldable pub gather : ℕ → List ℕ → Bench → Answered
+gather count bytes b =
+    cond (leb 1 count && leb count 6 && leb (length (b .gathered) + count) 2048)
+    (record { reply = done; bench = record { chip = b .chip; gathered = b .gathered ++ take count bytes; output = b .output } })
+    (record { reply = refusal 11; bench = b })
+
+unfoldable pub answer : Event → Bench → Answered
+answer (access a) b = stepped (driver a) (b .gathered) b
+answer (wire count bytes) b = gather count bytes b
+-- "gathering emptied whatever the answer"
+answer (frameEnds crc align) b = stepped (frame (record { bytes = b .gathered; badCrc = crc; alignment = align })) [] b
+answer (send s) b = stepped (sent s) (b .gathered) b
+-- "record cut short or of unknown kind"
+answer unknown b = record { reply = refusal 17; bench = b }
+
+-- a number's decimal digits as characters: at most n + 1 of them
+unfoldable pub decimalIn : ℕ → ℕ → List ℕ
+decimalIn zero x = []
+decimalIn (suc n) x = elim (ltb x 10) [ true ↦ (0x30 + x) ∷ [] | false ↦ decimalIn n (x / 10) ++ ((0x30 + x % 10) ∷ []) ]
+
+abbrev pub decimal : ℕ → List ℕ
+decimal x = decimalIn (suc x) x
+
+-- a lower-case hex digit, and four of them
+unfoldable pub hexDigit : ℕ → ℕ
+hexDigit d = cond (ltb d 10) (0x30 + d) (0x57 + d)
+
+unfoldable pub hex4 : ℕ → List ℕ
+hex4 x = hexDigit (x / 4096 % 16) ∷ hexDigit (x / 256 % 16) ∷ hexDigit (x / 16 % 16) ∷ hexDigit (x % 16) ∷ []
+
+-- "Each line: record number from 1, answer, value (0 if none) as four lower-case hex digits."
+unfoldable pub line : ℕ → Reply → List ℕ
+line number r = decimal number ++ (0x20 ∷ decimal (r .number)) ++ (0x20 ∷ hex4 (r .value)) ++ (0x0a ∷ [])
+
+-- what is printed for the records in the input, from record number k on; a tail of 1 to 7 bytes is one line with 17
+-- (one turn for each record, of which there are no more than bytes)
+unfoldable pub printed : ℕ → ℕ → List ℕ → Bench → List ℕ
+printed zero k input b = []
+printed (suc n) k [] b = []
+printed (suc n) k (x ∷ xs) b =
+    elim (ltb (length (x ∷ xs)) 8) [
+      | true ↦ line k (refusal 17)
+      | false ↦ let a = answer (eventOf (take 8 (x ∷ xs))) b in line k (a .reply) ++ printed n (k + 1) (drop 8 (x ∷ xs)) (a .bench)
+    ]
+
+-- "The program 'bench' starts from power-up and reads standard input"
+abbrev pub bench : List ℕ → List ℕ
+bench input = printed (length input) 1 input started

@@ -1,0 +1,36 @@
+-- What the rules say of lists: of packet numbers, of pages, of lists of pages.
+use mathlib.Core.Bool.{Bool, true, false, _||_}
+use mathlib.Core.List.{List, [], _∷_, _++_}
+use Prim.Native.Nat.{ℕ, zero, suc}
+use lib.Dec.{eqb}
+
+-- is x in the list
+unfoldable pub member : ℕ → List ℕ → Bool
+member x [] = false
+member x (y ∷ ys) = eqb x y || member x ys
+
+-- has the list an entry
+unfoldable pub some? : List ℕ → Bool
+some? [] = false
+some? (x ∷ xs) = true
+
+-- is the page in one of the page lists
+unfoldable pub owned : ℕ → List (List ℕ) → Bool
+owned p [] = false
+owned p (l ∷ ls) = member p l || owned p ls
+
+-- a list of the one number, or nothing
+unfoldable pub unless : Bool → ℕ → List ℕ
+unless true x = []
+unless false x = x ∷ []
+
+-- the pages below n that no page list has, in ascending order
+unfoldable pub freeBelow : ℕ → List (List ℕ) → List ℕ
+freeBelow zero ls = []
+freeBelow (suc n) ls = freeBelow n ls ++ unless (owned n ls) n
+
+-- the place of the first empty list, and the number of lists where there is none
+unfoldable pub firstEmpty : List (List ℕ) → ℕ
+firstEmpty [] = 0
+firstEmpty ([] ∷ ls) = 0
+firstEmpty ((p ∷ ps) ∷ ls) = suc (firstEmpty ls)

@@ -1,0 +1,86 @@
+-- Document 01, "MMU commands".
+use mathlib.Core.Bool.{Bool, cond, _||_}
+use mathlib.Core.List.{List, [], _∷_, _++_}
+use Prim.Native.Nat.{ℕ, _+_, _/_, _%_}
+use lib.Dec.{eqb, leb}
+use lib.ListN.{length, take, set}
+use Rattle.rules.specs.Lists.{member, firstEmpty}
+use Rattle.rules.specs.Chip.{Chip, size, pagesAt, free, allocated, emptyPool}
+use Rattle.rules.specs.Fields.{setResult, setPages, setRx, setTx, setDone, inRegisters, inPool}
+use Rattle.rules.specs.Answers.{Step, did, refuse}
+
+pub data Command : Type 0 where
+  nothing : Command
+  allocate : ℕ → Command
+  reset : Command
+  removeRx : Command
+  removeAndRelease : Command
+  release : Command
+  enqueue : Command
+  resetTx : Command
+  unknown : Command
+
+-- the command that a value written to the MMU command register asks for
+unfoldable pub decode : ℕ → Command
+decode v =
+    cond (eqb v 0x00) nothing
+    (cond (eqb (v / 8) 4) (allocate (v % 8 + 1))
+    (cond (eqb v 0x40) reset
+    (cond (eqb v 0x60) removeRx
+    (cond (eqb v 0x80) removeAndRelease
+    (cond (eqb v 0xa0) release
+    (cond (eqb v 0xc0) enqueue
+    (cond (eqb v 0xe0) resetTx unknown)))))))
+
+-- "The result is the lowest unallocated number, and pages are the lowest free ones."
+abbrev pub lowestNumber : Chip → ℕ
+lowestNumber c = firstEmpty (c .pool .pages)
+
+-- the lowest unallocated number is given the n lowest free pages
+abbrev pub give : ℕ → Chip → Chip
+give n c = inPool (setPages (set (c .pool .pages) (lowestNumber c) (take n (free c)))) c
+
+-- a packet's pages are given back; "bytes of freed pages stay"
+abbrev pub giveBack : ℕ → Chip → Chip
+giveBack k c = inPool (setPages (set (c .pool .pages) k [])) c
+
+-- an allocation that is granted
+abbrev pub grant : ℕ → Chip → Chip
+grant n c = inRegisters (setResult (lowestNumber c)) (give n c)
+
+-- refusal 6: the packet is in RX or TX
+abbrev pub queued : ℕ → Chip → Bool
+queued k c = member k (c .pool .rx) || member k (c .pool .tx)
+
+-- refusals 5 and 6, for the packet in the packet number register
+abbrev pub ifIdle : Chip → Step → Step
+ifIdle c s = cond (allocated (c .regs .packet) c) (cond (queued (c .regs .packet) c) (refuse 6 c) s) (refuse 5 c)
+
+-- refusal 7; else by the RX head and what stands behind it
+abbrev pub ifHead : Chip → List ℕ → (ℕ → List ℕ → Step) → Step
+ifHead c [] f = refuse 7 c
+ifHead c (k ∷ ks) f = f k ks
+
+unfoldable pub perform : Command → Chip → Step
+-- 00h nothing
+perform nothing c = did c
+-- 20h to 27h allocate 1 to 8 pages: done exactly when that many are free, else the result reads 80h
+perform (allocate n) c = cond (leb n (length (free c))) (did (grant n c)) (did (inRegisters (setResult 0x80) c))
+-- 40h frees all pages, empties all FIFOs, sets the result to 80h
+perform reset c = did (inRegisters (setResult 0x80) (inPool (λ q. emptyPool (size c)) c))
+-- 60h removes the RX head
+perform removeRx c = ifHead c (c .pool .rx) (λ k ks. did (inPool (setRx ks) c))
+-- 80h removes the RX head and releases it
+perform removeAndRelease c = ifHead c (c .pool .rx) (λ k ks. did (giveBack k (inPool (setRx ks) c)))
+-- A0h releases the packet in the packet number register
+perform release c = ifIdle c (did (giveBack (c .regs .packet) c))
+-- C0h appends it to TX
+perform enqueue c = ifIdle c (did (inPool (setTx (c .pool .tx ++ (c .regs .packet ∷ []))) c))
+-- E0h empties TX and completion, frees nothing
+perform resetTx c = did (inPool (λ q. setDone [] (setTx [] q)) c)
+-- other values: 4
+perform unknown c = refuse 4 c
+
+-- a write of v to the MMU command register
+abbrev pub command : ℕ → Chip → Step
+command v c = perform (decode v) c

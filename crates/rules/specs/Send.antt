@@ -1,0 +1,152 @@
+-- Document 01, "A send finishes".
+use mathlib.Core.Bool.{Bool, true, false, cond, not, _&&_, _||_}
+use mathlib.Core.List.{List, [], _∷_, _++_}
+use Prim.Native.Nat.{ℕ, _+_, _-_, _*_, _/_, _%_, _^_, min}
+use lib.Dec.{eqb, leb, ltb}
+use lib.ListN.{length, getD, replicate}
+use Rattle.rules.specs.Bits.{bit, clearBit, flag, lowByte, highByte, wordAt}
+use Rattle.rules.specs.Lists.{some?}
+use Rattle.rules.specs.Chip.{Registers, Chip, size, pagesAt}
+use Rattle.rules.specs.Fields.{setTcr, setEphsr, setEcr, setTxEmpty, setTx, setDone, inRegisters, inPool, inMemory}
+use Rattle.rules.specs.Answers.{Turn, refused, over}
+use Rattle.rules.specs.Packet.{getBytes, putBytes}
+use Rattle.rules.specs.Mmu.{giveBack}
+use Rattle.rules.specs.Receive.{broadcast, group}
+
+-- "outcome (0 good, 1 sixteen collisions, 2 late collision, 3 lost carrier, 4 SQE missing, 5 underrun), collisions, deferral (0, 1 deferred, 2 excessive)"
+pub record Send : Type 0 where
+  pub outcome : ℕ
+  pub collisions : ℕ
+  pub deferral : ℕ
+
+-- refusal 11; "collisions (16 with outcome 1, else 0 to 15)"
+unfoldable pub within : Send → Bool
+within s = leb (s .outcome) 5 && cond (eqb (s .outcome) 1) (eqb (s .collisions) 16) (leb (s .collisions) 15) && leb (s .deferral) 2
+
+-- refusal 13: the count "must be even, at least 12, within the pages"
+unfoldable pub usable : ℕ → ℕ → Bool
+usable count pages = not (bit 0 count) && leb 12 count && leb count (256 * pages)
+
+-- "Count c at addresses 2 and 3, low byte first"
+unfoldable pub byteCount : List ℕ → List ℕ → ℕ
+byteCount pages memory = wordAt 0 (getBytes 2 2 pages memory)
+
+-- "Outcome 3 is good unless TCR bit 10 is set and bit 15 clear; 4 is good .. unless TCR bit 12 is set."
+unfoldable pub good : ℕ → ℕ → Bool
+good tcr outcome = eqb outcome 0 || (eqb outcome 3 && not (bit 10 tcr && not (bit 15 tcr))) || (eqb outcome 4 && not (bit 12 tcr))
+
+-- "Data: from 4, c − 5 bytes if bit 5 of the byte at c − 1 is set, else c − 6."
+unfoldable pub sendLength : ℕ → ℕ → ℕ
+sendLength count control = cond (bit 5 control) (count - 5) (count - 6)
+
+-- "With TCR bit 7 shorter data is padded by zeros to 60."
+unfoldable pub padded : ℕ → List ℕ → List ℕ
+padded tcr bytes = cond (bit 7 tcr) (bytes ++ replicate (60 - length bytes) 0) bytes
+
+unfoldable pub controlByte : ℕ → List ℕ → List ℕ → ℕ
+controlByte count pages memory = getD (getBytes 1 (count - 1) pages memory) 0 0
+
+unfoldable pub putOut : ℕ → ℕ → List ℕ → List ℕ → List ℕ
+putOut tcr count pages memory = padded tcr (getBytes (sendLength count (controlByte count pages memory)) 4 pages memory)
+
+-- "failed 1 to 5, bit 4, 9, 10, 5, 15"
+unfoldable pub failureBit : ℕ → ℕ
+failureBit outcome = getD (0 ∷ 4 ∷ 9 ∷ 10 ∷ 5 ∷ 15 ∷ []) outcome 0
+
+-- "on failure bit 1 for one collision, 2 for more"
+unfoldable pub collisionBits : ℕ → ℕ
+collisionBits collisions = cond (eqb collisions 1) 2 (cond (ltb 1 collisions) 4 0)
+
+-- "good, bit 0" (4 "with EPHSR bit 5 also set"); "failed 1 to 5, .."
+unfoldable pub outcomeBits : Bool → Send → ℕ
+outcomeBits true s = 1 + 2 ^ 5 * flag (eqb (s .outcome) 4)
+outcomeBits false s = 2 ^ failureBit (s .outcome) + collisionBits (s .collisions)
+
+-- "bit 6 broadcast, else 3 group address"
+unfoldable pub addressBits : List ℕ → ℕ
+addressBits a = cond (broadcast a) (2 ^ 6) (2 ^ 3 * flag (group a))
+
+-- "ECR nibbles, lowest first"; "They stop at 15"
+unfoldable pub nibble : ℕ → ℕ → ℕ
+nibble k ecr = ecr / 16 ^ k % 16
+
+unfoldable pub counted : Bool → ℕ → ℕ
+counted true x = min 15 (x + 1)
+counted false x = x
+
+-- "good after one collision; two or more, failed or good; deferral 1; deferral 2"
+unfoldable pub tally : Bool → Send → ℕ → List ℕ
+tally isGood s ecr =
+    counted (isGood && eqb (s .collisions) 1) (nibble 0 ecr)
+    ∷ counted (leb 2 (s .collisions)) (nibble 1 ecr)
+    ∷ counted (eqb (s .deferral) 1) (nibble 2 ecr)
+    ∷ counted (eqb (s .deferral) 2) (nibble 3 ecr)
+    ∷ []
+
+unfoldable pub nibbles : List ℕ → ℕ
+nibbles [] = 0
+nibbles (x ∷ xs) = x + 16 * nibbles xs
+
+-- "any then at 15"
+unfoldable pub full : List ℕ → Bool
+full [] = false
+full (x ∷ xs) = eqb x 15 || full xs
+
+unfoldable pub newEcr : Bool → Send → ℕ → ℕ
+newEcr isGood s ecr = nibbles (tally isGood s ecr)
+
+-- "EPHSR bits other than 12 become .."; "any then at 15 sets EPHSR bit 12"
+unfoldable pub newEphsr : Bool → Send → List ℕ → Registers → ℕ
+newEphsr isGood s address r =
+    outcomeBits isGood s + addressBits address + 2 ^ 12 * flag (bit 12 (r .ephsr) || full (tally isGood s (r .ecr)))
+
+-- "A failure clears TXENA."; "TX EMPTY is set if TX is now empty."
+abbrev pub sentRegisters : Bool → Send → List ℕ → Bool → Registers → Registers
+sentRegisters isGood s address emptied r =
+    setTcr (cond isGood (r .tcr) (clearBit 0 (r .tcr)))
+    (setEphsr (newEphsr isGood s address r) (setEcr (newEcr isGood s (r .ecr)) (setTxEmpty (r .txEmpty || emptied) r)))
+
+-- "Good with control bit 11: the packet is released. Else its number joins completion."
+unfoldable pub autoRelease : Bool → Registers → Bool
+autoRelease isGood r = isGood && bit 11 (r .control)
+
+abbrev pub retire : Bool → ℕ → Chip → Chip
+retire released k c = cond released (giveBack k c) (inPool (setDone (c .pool .done ++ (k ∷ []))) c)
+
+-- "EPHSR is written to addresses 0 and 1."
+abbrev pub statusWritten : List ℕ → ℕ → Chip → Chip
+statusWritten pages e c = inMemory (putBytes (lowByte e ∷ highByte e ∷ []) 0 pages) c
+
+-- the head k of TX, with rest behind it, is sent
+unfoldable pub finish : Send → ℕ → List ℕ → Chip → List ℕ → Turn
+finish s k rest c out =
+    let pages = pagesAt c k in
+    let isGood = good (c .regs .tcr) (s .outcome) in
+    let bytes = putOut (c .regs .tcr) (byteCount pages (c .memory)) pages (c .memory) in
+    let address = getBytes 6 4 pages (c .memory) in
+    record {
+      reply = record { number = 0; value = length bytes };
+      chip =
+          retire (autoRelease isGood (c .regs)) k
+          (statusWritten pages (newEphsr isGood s address (c .regs))
+          (inPool (setTx rest) (inRegisters (sentRegisters isGood s address (not (some? rest))) c)));
+      output = over bytes out;
+    }
+
+-- refusal 13, then 14: "refusal 14 if full", where its number would join completion
+unfoldable pub ifSendable : Send → ℕ → List ℕ → Chip → List ℕ → Turn
+ifSendable s k rest c out =
+    cond (usable (byteCount (pagesAt c k) (c .memory)) (length (pagesAt c k)))
+    (cond (not (autoRelease (good (c .regs .tcr) (s .outcome)) (c .regs)) && leb (size c) (length (c .pool .done))) (refused 14 c out) (finish s k rest c out))
+    (refused 13 c out)
+
+-- "The TX head is sent": refusal 12 where TX is empty
+abbrev pub byTxHead : Send → List ℕ → Chip → List ℕ → Turn
+byTxHead s [] c out = refused 12 c out
+byTxHead s (k ∷ ks) c out = ifSendable s k ks c out
+
+-- refusals 15, 11, 12, 13, 14, in this order
+unfoldable pub sendDone : Send → Chip → List ℕ → Turn
+sendDone s c out =
+    cond (ltb (length out) 2048) (refused 15 c out)
+    (cond (within s) (cond (bit 0 (c .regs .tcr)) (byTxHead s (c .pool .tx) c out) (refused 12 c out)) (refused 11 c out))
