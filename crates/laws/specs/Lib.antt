@@ -1,2 +1,6 @@
 -- What follows from the rules. The modules tell the story in this order.
 pub mod Example
+pub mod Count
+pub mod Pages
+pub mod Pool
+pub mod Keeps

@@ -1,0 +1,342 @@
+-- Every step from a well-formed chip gives a well-formed chip: accesses, frames and sends, refusals too. For any size n.
+use mathlib.Core.Path.{_≡_, refl, ap, sym, _∙_}
+use mathlib.Core.Bool.{Bool, true, false, cond, not, _&&_, true≢false}
+use mathlib.Core.Logic.{_⊎_, inl, inr}
+use mathlib.Core.List.{List, [], _∷_, _++_}
+use Prim.Native.Nat.{ℕ, zero, suc, _+_, _-_, _*_, _≤_, _<_, _/_, _%_}
+use native.Mathlib.Omega.{arith}
+use borrow.Author.Tests.{leb-true, leb-false, ltb-false}
+use lib.Dec.{eqb, leb, ltb}
+use lib.ListN.{length, getD, set, take, drop, replicate, length-set, length-take, length-replicate}
+use lib.Seq.{getD-set-same}
+use Rattle.rules.specs.Bits.{bit, lowByte, highByte}
+use Rattle.rules.specs.Lists.{member, some?, freeBelow, firstEmpty}
+use Rattle.rules.specs.Chip.{Registers, Pool, Chip, size, free, pagesAt, allocated, emptyPool, powered}
+use Rattle.rules.specs.Fields.{setResult, setTcr, setEphsr, setRcr, setPacket, setBank, setMask, setPages, setRx, setTx, setDone, inRegisters, inPool, inMemory}
+use Rattle.rules.specs.Answers.{Step, Turn, did, gives, refuse, refused}
+use Rattle.rules.specs.WellFormed.{Distinct, Formed, FormedAt, fit}
+use Rattle.rules.specs.Packet.{place, putBytes}
+use Rattle.rules.specs.Mmu.{Command, nothing, allocate, reset, removeRx, removeAndRelease, release, enqueue, resetTx, unknown, decode, perform, command, give, giveBack, grant, queued, ifIdle, ifHead}
+use Rattle.rules.specs.Interrupts.{acknowledge}
+use Rattle.rules.specs.Data.{rcv, ifPacket, against, oddFixed, past, ifOpen, moved, readData, writeData}
+use Rattle.rules.specs.Registers.{Part, low, high, both, Register, TCR, EPHSR, RCR, ECR, MIR, RESERVED, STATION, CONTROL, COMMAND, PACKET, HEADS, POINTER, DATA, INTERRUPT, TABLE, BANK, UNUSED, ABSENT, width, bytesOf, merged, newRcr, writeRcr, softReset, forgotten, writeTcr, writeInterrupt, lowOnly, readRegister, writeRegister, registerAt, misplaced, partAt, Access, read, write, access}
+use Rattle.rules.specs.Receive.{Frame, Arrival, stored, disabled, notAccepted, tooLong, bad, noRoom, valueFor, dataLength, countOf, pagesFor, needed, accepted, destination, dropped, judge, image, stow, after, verdict, arrive}
+use Rattle.rules.specs.Send.{Send, within, usable, byteCount, good, autoRelease, retire, finish, ifSendable, byTxHead, sendDone}
+use Rattle.rules.specs.Step.{Input, driver, frame, sent, stepOn, stepOf}
+use Rattle.lists.specs.Facts.{if-not, or-left, or-right, member-first}
+use Rattle.laws.specs.Pool.{has-small, given-back, number-free, number-not-rx, number-not-tx, given, rx-popped, rx-joined, tx-popped, tx-joined, done-joined, done-popped, tx-and-done-emptied, beside, emptied}
+
+-- what refusal 16 asks of a chip with n pages
+abbrev pub Fits : ℕ → Chip → Type 0
+Fits n c = FormedAt n c × (length (c .memory) ≡ 256 * n)
+
+-- What holds of both branches holds of a test.
+pub pick : {A : Type 0} (P : A → Type 0) (b : Bool) {x y : A} → P x → P y → P (cond b x y)
+pick P true p q = p
+pick P false p q = q
+
+-- The same, where each branch may use its test's answer.
+pub pick-by : {A : Type 0} (P : A → Type 0) (b : Bool) {x y : A} → (b ≡ true → P x) → (b ≡ false → P y) → P (cond b x y)
+pick-by P true p q = p refl
+pick-by P false p q = q refl
+
+-- Writing bytes keeps the memory's length.
+pub length-put : (bytes : List ℕ) (a : ℕ) (pages memory : List ℕ) → length (putBytes bytes a pages memory) ≡ length memory
+unfolding putBytes
+length-put [] a pages memory = refl
+length-put (b ∷ bs) a pages memory = length-put bs (suc a) pages (set memory (place pages a) b) ∙ length-set memory (place pages a) b
+
+-- Pages that are taken from enough are some.
+some-taken : (m : ℕ) → 1 ≤ m → (l : List ℕ) → m ≤ length l → some? (take m l) ≡ true
+unfolding some?
+some-taken zero a l h = absurd (omega arith)
+some-taken (suc m) a [] h = absurd (omega arith)
+some-taken (suc m) a (x ∷ xs) h = refl
+
+-- MMU commands.
+abbrev pub Valid : Command → Type 0
+Valid nothing = Unit {0}
+Valid (allocate n) = (1 ≤ n) × (n ≤ 8)
+Valid reset = Unit {0}
+Valid removeRx = Unit {0}
+Valid removeAndRelease = Unit {0}
+Valid release = Unit {0}
+Valid enqueue = Unit {0}
+Valid resetTx = Unit {0}
+Valid unknown = Unit {0}
+
+pub decode-valid : (v : ℕ) → Valid (decode v)
+unfolding decode
+decode-valid v =
+    pick Valid (eqb v 0x00) tt
+    (pick Valid (eqb (v / 8) 4) {x = allocate (v % 8 + 1)} (omega arith)
+    (pick Valid (eqb v 0x40) tt
+    (pick Valid (eqb v 0x60) tt
+    (pick Valid (eqb v 0x80) tt (pick Valid (eqb v 0xa0) tt (pick Valid (eqb v 0xc0) tt (pick Valid (eqb v 0xe0) tt tt)))))))
+
+module _ (n : ℕ) where
+  abbrev Kept : Step → Type 0
+  Kept s = Fits n (s .chip)
+
+  module _ (c : Chip) (w : Fits n c) where
+    -- The RX head k is in range, and not in TX nor again in RX.
+    head-small : (k : ℕ) (ks : List ℕ) → c .pool .rx ≡ k ∷ ks → k < n
+    head-small k ks e = omega (arith, has-small (c .pool .pages) k (w .0 .queues .rxAllocated k (rw e (member-first k ks))), w .0 .count)
+
+    by-head : (f : ℕ → List ℕ → Step) (l : List ℕ) → ((k : ℕ) (ks : List ℕ) → l ≡ k ∷ ks → Kept (f k ks)) → Kept (ifHead c l f)
+    by-head f [] h = w
+    by-head f (k ∷ ks) h = h k ks refl
+
+    -- Refusals 5 and 6, else the step, of an allocated packet in neither queue.
+    idle : (s : Step) → (allocated (c .regs .packet) c ≡ true → member (c .regs .packet) (c .pool .rx) ≡ false → member (c .regs .packet) (c .pool .tx) ≡ false → Kept s) → Kept (ifIdle c s)
+    idle s f =
+        let k = c .regs .packet in
+        pick-by Kept (allocated k c)
+        (λ a. pick-by Kept (queued k c) (λ q. w) (λ q. f a (or-left (member k (c .pool .rx)) (member k (c .pool .tx)) q) (or-right (member k (c .pool .rx)) (member k (c .pool .tx)) q)))
+        (λ a. w)
+
+    pub keeps-perform : (k : Command) → Valid k → Kept (perform k c)
+    unfolding perform
+    keeps-perform nothing v = w
+    keeps-perform (allocate m) v =
+        pick-by Kept (leb m (length (free c)))
+        (λ e. let h = leb-true m (length (free c)) e in
+        let g = given (w .0) m (v .0) (v .1) h in (
+          beside g (w .0 .bankSmall) (w .0 .packetSmall)
+              (inl (number-free (w .0) (omega (arith, v .0, h)))),
+          w .1,
+        ))
+        (λ e. (beside (w .0) (w .0 .bankSmall) (w .0 .packetSmall) (inr refl), w .1))
+    keeps-perform reset v = (rw (w .0 .count) (emptied n (w .0 .bankSmall) (w .0 .packetSmall) (inr refl)), w .1)
+    keeps-perform removeRx v = by-head _ (c .pool .rx) (λ k ks e. (rx-popped (w .0) k ks e, w .1))
+    keeps-perform removeAndRelease v =
+        by-head _ (c .pool .rx)
+        (λ k ks e. let q = w .0 .queues in
+        let d : Distinct (k ∷ ks) = rw e at (q .rxDistinct) in
+        let m : member k (c .pool .rx) ≡ true = rw e (member-first k ks) in
+        (given-back (rx-popped (w .0) k ks e) k (head-small k ks e) (λ x. true≢false (sym x ∙ d .0)) (λ x. true≢false (sym x ∙ q .notBoth k m)), w .1))
+    keeps-perform release v =
+        idle _
+        (λ a r t. (
+          given-back (w .0) (c .regs .packet) (omega (arith, has-small (c .pool .pages) (c .regs .packet) a, w .0 .count))
+              (λ x. true≢false (sym x ∙ r)) (λ x. true≢false (sym x ∙ t)),
+          w .1,
+        ))
+    keeps-perform enqueue v = idle _ (λ a r t. (tx-joined (w .0) (c .regs .packet) a r t, w .1))
+    keeps-perform resetTx v = (tx-and-done-emptied (w .0), w .1)
+    keeps-perform unknown v = w
+
+    -- Data accesses: only the pointer and bytes of memory change.
+    by-packet : (f : List ℕ → Step) → ((pages : List ℕ) → Kept (f pages)) → Kept (ifPacket c f)
+    unfolding ifPacket
+    by-packet f h =
+        pick Kept (rcv (c .regs .pointer)) (by-head _ (c .pool .rx) (λ k ks e. h (pagesAt c k))) (pick Kept (allocated (c .regs .packet) c) (h (pagesAt c (c .regs .packet))) w)
+
+    by-tests : (isRead : Bool) (wide : ℕ) (pages : List ℕ) (s : Step) → Kept s → Kept (ifOpen isRead wide pages c s)
+    unfolding ifOpen
+    by-tests isRead wide pages s h =
+        let p = c .regs .pointer in
+        pick Kept (against isRead p) w (pick Kept (oddFixed p) w (pick Kept (past wide p pages) w h))
+
+    keeps-read-data : (wide : ℕ) → Kept (readData wide c)
+    unfolding readData
+    keeps-read-data wide = by-packet _ (λ pages. by-tests true wide pages _ w)
+
+    keeps-write-data : (bytes : List ℕ) → Kept (writeData bytes c)
+    unfolding writeData
+    keeps-write-data bytes = by-packet _ (λ pages. by-tests false (length bytes) pages _ (w .0, length-put bytes _ pages (c .memory) ∙ w .1))
+
+    -- Registers.
+    pub keeps-read : (r : Register) (p : Part) → Kept (readRegister r p c)
+    unfolding readRegister
+    keeps-read TCR p = w
+    keeps-read EPHSR p = w
+    keeps-read RCR p = w
+    keeps-read ECR p = w
+    keeps-read MIR p = w
+    keeps-read RESERVED p = w
+    keeps-read (STATION k) p = w
+    keeps-read CONTROL p = w
+    keeps-read COMMAND p = w
+    keeps-read PACKET p = w
+    keeps-read HEADS p = w
+    keeps-read POINTER p = w
+    keeps-read DATA p = keeps-read-data (width p)
+    keeps-read INTERRUPT p = w
+    keeps-read (TABLE k) p = w
+    keeps-read BANK p = w
+    keeps-read UNUSED p = w
+    keeps-read ABSENT p = w
+
+    in-low : (p : Part) (s : Step) → Kept s → Kept (lowOnly p c s)
+    unfolding lowOnly
+    in-low low s h = h
+    in-low high s h = w
+    in-low both s h = h
+
+    -- A soft reset, and nothing else, empties the pool.
+    keeps-rcr : (x : ℕ) → Fits n (writeRcr x c)
+    unfolding writeRcr
+    keeps-rcr x = pick (Fits n) (bit 15 x) (rw (w .0 .count) (emptied n (omega arith) (omega arith) (inr refl)), w .1) w
+
+    keeps-tcr : (x : ℕ) → Fits n (inRegisters (writeTcr x) c)
+    unfolding writeTcr
+    keeps-tcr x = pick (λ (r : Registers). Formed n (r .bank) (r .packet) (r .result) (c .pool) × (length (c .memory) ≡ 256 * n)) (bit 0 x) w w
+
+    keeps-acknowledge : (v : ℕ) → Fits n (acknowledge v c)
+    keeps-acknowledge v = (
+      pick (λ (l : List ℕ). Formed n (c .regs .bank) (c .regs .packet) (c .regs .result) (setDone l (c .pool))) (bit 1 v)
+          (done-popped (w .0)) (w .0),
+      w .1,
+    )
+
+    keeps-interrupt : (p : Part) (v : ℕ) → Fits n (writeInterrupt p v c)
+    unfolding writeInterrupt
+    keeps-interrupt low v = keeps-acknowledge (lowByte v)
+    keeps-interrupt high v = w
+    keeps-interrupt both v = keeps-acknowledge (lowByte v)
+
+    pub keeps-write : (r : Register) (p : Part) (v : ℕ) → Kept (writeRegister r p v c)
+    unfolding writeRegister
+    keeps-write TCR p v = keeps-tcr (merged p v (c .regs .tcr))
+    keeps-write EPHSR p v = w
+    keeps-write RCR p v = keeps-rcr (newRcr p v (c .regs .rcr))
+    keeps-write ECR p v = w
+    keeps-write MIR p v = w
+    keeps-write RESERVED p v = in-low p _ w
+    keeps-write (STATION k) p v = w
+    keeps-write CONTROL p v = w
+    keeps-write COMMAND p v = in-low p _ (keeps-perform (decode (lowByte v)) (decode-valid (lowByte v)))
+    keeps-write PACKET p v = in-low p _ (beside (w .0) (w .0 .bankSmall) (omega arith) (w .0 .resultGood), w .1)
+    keeps-write HEADS p v = w
+    keeps-write POINTER p v = w
+    keeps-write DATA p v = keeps-write-data (bytesOf p v)
+    keeps-write INTERRUPT p v = keeps-interrupt p v
+    keeps-write (TABLE k) p v = w
+    keeps-write BANK p v = in-low p _ (beside (w .0) (omega arith) (w .0 .packetSmall) (w .0 .resultGood), w .1)
+    keeps-write UNUSED p v = w
+    keeps-write ABSENT p v = w
+
+    pub keeps-access : (a : Access) → Kept (access a c)
+    unfolding access
+    keeps-access (read wide o) = pick Kept (misplaced wide o) w (keeps-read (registerAt (c .regs .bank) o) (partAt wide o))
+    keeps-access (write wide o v) = pick Kept (misplaced wide o) w (keeps-write (registerAt (c .regs .bank) o) (partAt wide o) v)
+
+    -- A stored frame: its number has pages, and joins RX.
+    module _ (f : Frame) (m : ℕ) (least : 1 ≤ m) (most : m ≤ 8) (room : m ≤ length (free c)) where
+      pub keeps-stowed : (bytes pages : List ℕ) → Fits n (inMemory (putBytes bytes 0 pages) (inPool (setRx (c .pool .rx ++ (firstEmpty (c .pool .pages) ∷ []))) (give m c)))
+      keeps-stowed bytes pages =
+          let k = firstEmpty (c .pool .pages) in
+          let u : k < n = number-free (w .0) (omega (arith, least, room)) in
+          let has : some? (getD (set (c .pool .pages) k (take m (free c))) k []) ≡ true =
+          ap some? (getD-set-same (c .pool .pages) k (take m (free c)) [] (omega (arith, u, w .0 .count))) ∙ some-taken m least (free c) room in (
+            rx-joined (given (w .0) m least most room) k has (if-not (member k (c .pool .rx)) (number-not-rx (w .0))) (if-not (member k (c .pool .tx)) (number-not-tx (w .0))),
+            length-put bytes 0 pages (c .memory) ∙ w .1,
+          )
+
+-- How many pages a frame needs, and what is known of one that is stored.
+pub data-short : (r : Registers) (len : ℕ) → dataLength r len ≤ len
+unfolding dataLength
+data-short r len = pick (λ (x : ℕ). x ≤ len) (bit 9 (r .rcr)) (omega arith) (omega arith)
+
+pub count-low : (n : ℕ) → n + 5 ≤ countOf n
+unfolding countOf
+count-low n = pick (λ (x : ℕ). n + 5 ≤ x) (bit 0 n) (omega arith) (omega arith)
+
+pub count-high : (n : ℕ) → countOf n ≤ n + 6
+unfolding countOf
+count-high n = pick (λ (x : ℕ). x ≤ n + 6) (bit 0 n) (omega arith) (omega arith)
+
+pub needs-one : (r : Registers) (len : ℕ) → 1 ≤ needed r len
+unfolding needed pagesFor
+needs-one r len = omega (arith, count-low (dataLength r len))
+
+pub needs-seven : (r : Registers) (len : ℕ) → len ≤ 1532 → needed r len ≤ 7
+unfolding needed pagesFor
+needs-seven r len h = omega (arith, count-high (dataLength r len), data-short r len)
+
+-- what the judgement says of a stored frame
+pub record Storable (r : Registers) (free : ℕ) (f : Frame) : Type 0 where
+  pub short : length (f .bytes) ≤ 1532
+  pub room : needed r (length (f .bytes)) + r .reserved ≤ free
+
+pub storable : (r : Registers) (free : ℕ) (f : Frame) → judge r free f ≡ stored → Storable r free f
+unfolding judge valueFor
+storable r free f e =
+    go (not (bit 8 (r .rcr))) (not (accepted r (destination f))) (ltb 1532 (length (f .bytes))) refl (dropped r f) (ltb free (needed r (length (f .bytes)) + r .reserved)) refl e
+  where
+    go : (a b x : Bool) → ltb 1532 (length (f .bytes)) ≡ x → (d y : Bool) → ltb free (needed r (length (f .bytes)) + r .reserved) ≡ y
+        → cond a disabled (cond b notAccepted (cond x tooLong (cond d bad (cond y noRoom stored)))) ≡ stored → Storable r free f
+    go true b x p d y q e = absurd (omega (arith, ap valueFor e))
+    go false true x p d y q e = absurd (omega (arith, ap valueFor e))
+    go false false true p d y q e = absurd (omega (arith, ap valueFor e))
+    go false false false p true y q e = absurd (omega (arith, ap valueFor e))
+    go false false false p false true q e = absurd (omega (arith, ap valueFor e))
+    go false false false p false false q e = record { short = ltb-false 1532 (length (f .bytes)) p; room = ltb-false free _ q }
+
+module _ (n : ℕ) (c : Chip) (w : Fits n c) where
+  keeps-after : (v : Arrival) (f : Frame) → verdict f c ≡ v → Fits n (after v f c)
+  unfolding after
+  keeps-after stored f e =
+      let s = storable (c .regs) (length (free c)) f e in
+      let len = length (f .bytes) in
+      keeps-stowed n c w f (needed (c .regs) len) (needs-one (c .regs) len) (omega (arith, needs-seven (c .regs) len (s .short))) (omega (arith, s .room)) _ _
+  keeps-after disabled f e = w
+  keeps-after notAccepted f e = w
+  keeps-after tooLong f e = w
+  keeps-after bad f e = w
+  keeps-after noRoom f e = w
+
+  pub keeps-arrive : (f : Frame) → Fits n (arrive f c .chip)
+  unfolding arrive
+  keeps-arrive f = pick (λ (s : Step). Fits n (s .chip)) (ltb (length (f .bytes)) 18) w (keeps-after (verdict f c) f refl)
+
+  -- A finished send: its number leaves TX, and is released or joins completion.
+  keeps-finish : (s : Send) (k : ℕ) (rest : List ℕ) (out : List ℕ) → c .pool .tx ≡ k ∷ rest
+      → (autoRelease (good (c .regs .tcr) (s .outcome)) (c .regs) ≡ false → length (c .pool .done) < n) → Fits n (finish s k rest c out .chip)
+  unfolding finish
+  keeps-finish s k rest out e f =
+      let q = w .0 .queues in
+      let m : member k (c .pool .tx) ≡ true = rw e (member-first k rest) in
+      let d : Distinct (k ∷ rest) = rw e at (q .txDistinct) in
+      let u : k < n = omega (arith, has-small (c .pool .pages) k (q .txAllocated k m), w .0 .count) in
+      let p = tx-popped (w .0) k rest e in
+      pick-by (Fits n) (autoRelease (good (c .regs .tcr) (s .outcome)) (c .regs))
+      (λ a. (given-back p k u (λ x. true≢false (sym m ∙ q .notBoth k x)) (λ x. true≢false (sym x ∙ d .0)), length-put _ 0 _ (c .memory) ∙ w .1))
+      (λ a. (done-joined p k u (f a), length-put _ 0 _ (c .memory) ∙ w .1))
+
+  abbrev Turned : Turn → Type 0
+  Turned t = Fits n (t .chip)
+
+  open-done : (a full : Bool) → not a && full ≡ false → a ≡ false → full ≡ false
+  open-done true full e f = absurd (true≢false f)
+  open-done false full e f = e
+
+  keeps-tx-head : (s : Send) (l : List ℕ) (out : List ℕ) → c .pool .tx ≡ l → Turned (byTxHead s l c out)
+  unfolding ifSendable
+  keeps-tx-head s [] out e = w
+  keeps-tx-head s (k ∷ rest) out e =
+      let a = autoRelease (good (c .regs .tcr) (s .outcome)) (c .regs) in
+      pick Turned (usable (byteCount (pagesAt c k) (c .memory)) (length (pagesAt c k)))
+      (pick-by Turned (not a && leb (size c) (length (c .pool .done))) (λ x. w)
+      (λ x. keeps-finish s k rest out e (λ b. omega (arith, leb-false (size c) (length (c .pool .done)) (open-done a (leb (size c) (length (c .pool .done))) x b), w .0 .count))))
+      w
+
+  pub keeps-send : (s : Send) (out : List ℕ) → Turned (sendDone s c out)
+  unfolding sendDone
+  keeps-send s out = pick Turned (ltb (length out) 2048) w (pick Turned (within s) (pick Turned (bit 0 (c .regs .tcr)) (keeps-tx-head s (c .pool .tx) out refl) w) w)
+
+  keeps-on : (i : Input) (out : List ℕ) → Turned (stepOn i c out)
+  unfolding stepOn
+  keeps-on (driver a) out = keeps-access n c w a
+  keeps-on (frame f) out = keeps-arrive f
+  keeps-on (sent s) out = keeps-send s out
+
+  -- Every step.
+  pub keeps : (i : Input) (out : List ℕ) → Turned (stepOf n i c out)
+  unfolding stepOf
+  keeps i out = pick Turned (fit n c) (keeps-on i out) w
+
+-- Power-up.
+pub powered-fits : (n : ℕ) → Fits n (powered n)
+powered-fits n = (emptied n (omega arith) (omega arith) (inr refl), length-replicate (256 * n) 0)

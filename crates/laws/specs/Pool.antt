@@ -1,0 +1,256 @@
+-- What keeps the pool well formed: pages given and given back, entries that join and leave a queue. For any size n.
+use mathlib.Core.Path.{_≡_, refl, ap, sym, subst, _∙_}
+use mathlib.Core.Bool.{Bool, true, false, true≢false}
+use mathlib.Core.Logic.{_⊎_, inl, inr, ⊎-elim}
+use mathlib.Core.List.{List, [], _∷_, _++_}
+use Prim.Native.Nat.{ℕ, zero, suc, _+_, _≤_, _<_}
+use native.Mathlib.Omega.{arith}
+use borrow.Author.Tests.{eq-eqb}
+use lib.Dec.{eqb}
+use lib.ListN.{length, getD, set, take, drop, replicate, length-append, length-drop, length-set, length-take, length-replicate}
+use lib.Seq.{getD-set-same, getD-set-other}
+use Rattle.rules.specs.Lists.{member, some?, freeBelow, firstEmpty}
+use Rattle.rules.specs.Chip.{Pool, emptyPool}
+use Rattle.rules.specs.Fields.{setPages, setRx, setTx, setDone}
+use Rattle.rules.specs.WellFormed.{Distinct, GoodPages, GoodQueues, Formed}
+use Rattle.lists.specs.Facts.{if-not, or-left, or-right, member-cases, member-first, member-later, member-append, member-free, member-take}
+use Rattle.laws.specs.Count.{unallocated}
+use Rattle.laws.specs.Pages.{granted-ascend, owned-in, first-empty, set-good}
+
+-- An allocated number is in range.
+pub has-small : (ls : List (List ℕ)) (i : ℕ) → some? (getD ls i []) ≡ true → i < length ls
+unfolding some?
+has-small [] i f = absurd (true≢false (sym f))
+has-small (l ∷ ls) zero f = omega arith
+has-small (l ∷ ls) (suc i) f = omega (arith, has-small ls i f)
+
+-- A number that is not allocated is in no queue whose entries are.
+absent : (l : List ℕ) (ls : List (List ℕ)) (k : ℕ) → ((j : ℕ) → member j l ≡ true → some? (getD ls j []) ≡ true) → some? (getD ls k []) ≡ false → member k l ≡ true → ⊥
+absent l ls k h e m = true≢false (sym (h k m) ∙ e)
+
+-- An empty list has no member; a member of one entry is that entry.
+nobody : {A : Type 0} (j : ℕ) → member j [] ≡ true → A
+unfolding member
+nobody j m = absurd (true≢false (sym m))
+
+only : (P : ℕ → Type 0) (j k : ℕ) → P k → member j (k ∷ []) ≡ true → P j
+only P j k p m = ⊎-elim (λ e. subst P (sym e) p) (nobody j) (member-cases j k [] m)
+
+-- What is in range, one by one.
+module _ (n : ℕ) (l : List ℕ) (h : (k : ℕ) → member k l ≡ true → k < n) where
+  joined-small : (k : ℕ) → k < n → (j : ℕ) → member j (l ++ (k ∷ [])) ≡ true → j < n
+  joined-small k b j m = ⊎-elim (h j) (only (λ i. i < n) j k b) (member-append j l (k ∷ []) m)
+
+member-drop : (l : List ℕ) (j : ℕ) → member j (drop 1 l) ≡ true → member j l ≡ true
+member-drop [] j m = m
+member-drop (k ∷ ks) j m = member-later j k ks m
+
+distinct-snoc : (l : List ℕ) (x : ℕ) → Distinct l → member x l ≡ false → Distinct (l ++ (x ∷ []))
+unfolding member
+distinct-snoc [] x d m = (refl, tt)
+distinct-snoc (y ∷ ys) x d m = (
+  if-not (member y (ys ++ (x ∷ [])))
+      (λ e. ⊎-elim (λ a. true≢false (sym a ∙ d .0))
+      (λ a. ⊎-elim (λ b. true≢false (sym (eq-eqb x y (sym b)) ∙ or-left (eqb x y) (member x ys) m)) (nobody y) (member-cases y x [] a)) (member-append y ys (x ∷ []) e)),
+  distinct-snoc ys x (d .1) (or-right (eqb x y) (member x ys) m),
+)
+
+-- The queues beside page lists.
+module _ (n : ℕ) (ls : List (List ℕ)) (rx tx done : List ℕ) (q : GoodQueues n ls rx tx done) where
+  -- RX and TX may change places.
+  turned : GoodQueues n ls tx rx done
+  turned = record {
+    rxAllocated = q .txAllocated;
+    txAllocated = q .rxAllocated;
+    rxDistinct = q .txDistinct;
+    txDistinct = q .rxDistinct;
+    notBoth = λ k m. if-not (member k rx) (λ e. true≢false (sym m ∙ q .notBoth k e));
+    doneFew = q .doneFew;
+    doneNumbers = q .doneNumbers;
+  }
+
+  -- The pages of a packet that is in neither change.
+  touched : (k : ℕ) (l : List ℕ) → (member k rx ≡ true → ⊥) → (member k tx ≡ true → ⊥) → GoodQueues n (set ls k l) rx tx done
+  touched k l r t = record {
+    rxAllocated = λ j m. ap some? (getD-set-other ls k j l [] (λ e. r (sym (ap (λ (i : ℕ). member i rx) e) ∙ m))) ∙ q .rxAllocated j m;
+    txAllocated = λ j m. ap some? (getD-set-other ls k j l [] (λ e. t (sym (ap (λ (i : ℕ). member i tx) e) ∙ m))) ∙ q .txAllocated j m;
+    rxDistinct = q .rxDistinct;
+    txDistinct = q .txDistinct;
+    notBoth = q .notBoth;
+    doneFew = q .doneFew;
+    doneNumbers = q .doneNumbers;
+  }
+
+  -- The head of RX leaves.
+  popped : (k : ℕ) (ks : List ℕ) → rx ≡ k ∷ ks → GoodQueues n ls ks tx done
+  popped k ks e =
+      let d : Distinct (k ∷ ks) = rw e at (q .rxDistinct) in
+      record {
+        rxAllocated = λ j m. q .rxAllocated j (rw e (member-later j k ks m));
+        txAllocated = q .txAllocated;
+        rxDistinct = d .1;
+        txDistinct = q .txDistinct;
+        notBoth = λ j m. q .notBoth j (rw e (member-later j k ks m));
+        doneFew = q .doneFew;
+        doneNumbers = q .doneNumbers;
+      }
+
+  -- An allocated packet that is in neither joins RX.
+  joined : (k : ℕ) → some? (getD ls k []) ≡ true → member k rx ≡ false → member k tx ≡ false → GoodQueues n ls (rx ++ (k ∷ [])) tx done
+  joined k a r t = record {
+    rxAllocated = λ j m. ⊎-elim (q .rxAllocated j) (λ e. only (λ i. some? (getD ls i []) ≡ true) j k a e) (member-append j rx (k ∷ []) m);
+    txAllocated = q .txAllocated;
+    rxDistinct = distinct-snoc rx k (q .rxDistinct) r;
+    txDistinct = q .txDistinct;
+    notBoth = λ j m. ⊎-elim (q .notBoth j) (only (λ i. member i tx ≡ false) j k t) (member-append j rx (k ∷ []) m);
+    doneFew = q .doneFew;
+    doneNumbers = q .doneNumbers;
+  }
+
+  -- Completion is another list in range.
+  completed : (l : List ℕ) → length l ≤ n → ((k : ℕ) → member k l ≡ true → k < n) → GoodQueues n ls rx tx l
+  completed l a b = record {
+    rxAllocated = q .rxAllocated;
+    txAllocated = q .txAllocated;
+    rxDistinct = q .rxDistinct;
+    txDistinct = q .txDistinct;
+    notBoth = q .notBoth;
+    doneFew = a;
+    doneNumbers = b;
+  }
+
+  -- TX is emptied.
+  unsent : GoodQueues n ls rx [] done
+  unfolding member
+  unsent = record {
+    rxAllocated = q .rxAllocated;
+    txAllocated = λ j m. nobody j m;
+    rxDistinct = q .rxDistinct;
+    txDistinct = tt;
+    notBoth = λ j m. refl;
+    doneFew = q .doneFew;
+    doneNumbers = q .doneNumbers;
+  }
+
+module _ {n bank packet result : ℕ} {q : Pool} (w : Formed n bank packet result q) where
+  -- Another pool beside the same registers.
+  abbrev Good : Pool → Type 0
+  Good x = Formed n bank packet result x
+
+  -- The queues are others.
+  requeued : (rx tx done : List ℕ) → GoodQueues n (q .pages) rx tx done → Good (record { pages = q .pages; rx = rx; tx = tx; done = done })
+  requeued rx tx done g = record {
+    count = w .count;
+    pages = w .pages;
+    bankSmall = w .bankSmall;
+    packetSmall = w .packetSmall;
+    resultGood = w .resultGood;
+    queues = g;
+  }
+
+  -- The pages of a packet that is in neither queue become l, which ascends, is short, and has pages that no other packet has.
+  repaged : (k : ℕ) (l : List ℕ) → k < n → (member k (q .rx) ≡ true → ⊥) → (member k (q .tx) ≡ true → ⊥) → GoodPages n (set (q .pages) k l) → Good (setPages (set (q .pages) k l) q)
+  repaged k l h r t g = record {
+    count = length-set (q .pages) k l ∙ w .count;
+    pages = g;
+    bankSmall = w .bankSmall;
+    packetSmall = w .packetSmall;
+    resultGood = w .resultGood;
+    queues = touched n (q .pages) (q .rx) (q .tx) (q .done) (w .queues) k l r t;
+  }
+
+  pub given-back : (k : ℕ) → k < n → (member k (q .rx) ≡ true → ⊥) → (member k (q .tx) ≡ true → ⊥) → Good (setPages (set (q .pages) k []) q)
+  given-back k h r t = repaged k [] h r t (set-good (q .pages) k [] (omega (arith, w .count)) n (w .pages) tt (omega arith) (λ j m. nobody j m))
+
+  -- The lowest unallocated number, where a page is free.
+  pub number-free : 0 < length (freeBelow (length (q .pages)) (q .pages)) → firstEmpty (q .pages) < n
+  number-free h = omega (arith, unallocated (q .pages) (rw (w .count) (w .pages)) h, w .count)
+
+  number-idle : some? (getD (q .pages) (firstEmpty (q .pages)) []) ≡ false
+  unfolding some?
+  number-idle = ap some? (first-empty (q .pages))
+
+  pub number-not-rx : member (firstEmpty (q .pages)) (q .rx) ≡ true → ⊥
+  number-not-rx = absent (q .rx) (q .pages) (firstEmpty (q .pages)) (w .queues .rxAllocated) number-idle
+
+  pub number-not-tx : member (firstEmpty (q .pages)) (q .tx) ≡ true → ⊥
+  number-not-tx = absent (q .tx) (q .pages) (firstEmpty (q .pages)) (w .queues .txAllocated) number-idle
+
+  pub given : (m : ℕ) → 1 ≤ m → m ≤ 8 → m ≤ length (freeBelow (length (q .pages)) (q .pages))
+      → Good (setPages (set (q .pages) (firstEmpty (q .pages)) (take m (freeBelow (length (q .pages)) (q .pages)))) q)
+  given m a b h =
+      let ls = q .pages in
+      let k = firstEmpty ls in
+      let l = take m (freeBelow (length ls) ls) in
+      let u = number-free (omega (arith, a, h)) in
+      let apart : (p : ℕ) → member p l ≡ true → (p < n) × ((i : ℕ) → (i ≡ k → ⊥) → member p (getD ls i []) ≡ true → ⊥) =
+      λ p x. let f = member-free (length ls) ls p (member-take p m (freeBelow (length ls) ls) x) in
+      (omega (arith, f .0, w .count), λ i d y. true≢false (sym (owned-in p ls i y) ∙ f .1)) in
+      repaged k l u number-not-rx number-not-tx
+      (set-good ls k l (omega (arith, u, w .count)) n (w .pages) (granted-ascend m (length ls) ls) (simp length-take (omega (arith, b))) apart)
+
+  pub rx-popped : (k : ℕ) (ks : List ℕ) → q .rx ≡ k ∷ ks → Good (setRx ks q)
+  rx-popped k ks e = requeued ks (q .tx) (q .done) (popped n (q .pages) (q .rx) (q .tx) (q .done) (w .queues) k ks e)
+
+  pub rx-joined : (k : ℕ) → some? (getD (q .pages) k []) ≡ true → member k (q .rx) ≡ false → member k (q .tx) ≡ false → Good (setRx (q .rx ++ (k ∷ [])) q)
+  rx-joined k a r t = requeued (q .rx ++ (k ∷ [])) (q .tx) (q .done) (joined n (q .pages) (q .rx) (q .tx) (q .done) (w .queues) k a r t)
+
+  other-way : GoodQueues n (q .pages) (q .tx) (q .rx) (q .done)
+  other-way = turned n (q .pages) (q .rx) (q .tx) (q .done) (w .queues)
+
+  pub tx-popped : (k : ℕ) (ks : List ℕ) → q .tx ≡ k ∷ ks → Good (setTx ks q)
+  tx-popped k ks e =
+      requeued (q .rx) ks (q .done) (turned n (q .pages) ks (q .rx) (q .done) (popped n (q .pages) (q .tx) (q .rx) (q .done) other-way k ks e))
+
+  pub tx-joined : (k : ℕ) → some? (getD (q .pages) k []) ≡ true → member k (q .rx) ≡ false → member k (q .tx) ≡ false → Good (setTx (q .tx ++ (k ∷ [])) q)
+  tx-joined k a r t =
+      requeued (q .rx) (q .tx ++ (k ∷ [])) (q .done) (turned n (q .pages) (q .tx ++ (k ∷ [])) (q .rx) (q .done) (joined n (q .pages) (q .tx) (q .rx) (q .done) other-way k a t r))
+
+  pub done-joined : (k : ℕ) → k < n → length (q .done) < n → Good (setDone (q .done ++ (k ∷ [])) q)
+  done-joined k h f =
+      requeued (q .rx) (q .tx) (q .done ++ (k ∷ []))
+      (completed n (q .pages) (q .rx) (q .tx) (q .done) (w .queues) (q .done ++ (k ∷ [])) (simp length-append (omega (arith, f))) (joined-small n (q .done) (w .queues .doneNumbers) k h))
+
+  pub done-popped : Good (setDone (drop 1 (q .done)) q)
+  done-popped =
+      requeued (q .rx) (q .tx) (drop 1 (q .done))
+      (completed n (q .pages) (q .rx) (q .tx) (q .done) (w .queues) (drop 1 (q .done)) (simp length-drop (omega (arith, w .queues .doneFew))) (λ j m. w .queues .doneNumbers j (member-drop (q .done) j m)))
+
+  pub tx-and-done-emptied : Good (setDone [] (setTx [] q))
+  tx-and-done-emptied =
+      requeued (q .rx) [] []
+      (completed n (q .pages) (q .rx) [] (q .done) (unsent n (q .pages) (q .rx) (q .tx) (q .done) (w .queues)) [] (omega arith) (λ j m. nobody j m))
+
+-- Other registers beside the same pool.
+pub beside : {n b p r b′ p′ r′ : ℕ} {q : Pool} → Formed n b p r q → b′ < 8 → p′ < 64 → (r′ < n) ⊎ (r′ ≡ 0x80) → Formed n b′ p′ r′ q
+beside w x y z = record { count = w .count; pages = w .pages; bankSmall = x; packetSmall = y; resultGood = z; queues = w .queues }
+
+-- No packet has pages, and no queue has entries.
+none-there : (n i : ℕ) → getD {A = List ℕ} (replicate n []) i [] ≡ []
+none-there zero i = refl
+none-there (suc n) zero = refl
+none-there (suc n) (suc i) = none-there n i
+
+pub emptied : (n : ℕ) {b p r : ℕ} → b < 8 → p < 64 → (r < n) ⊎ (r ≡ 0x80) → Formed n b p r (emptyPool n)
+unfolding member
+emptied n x y z = record {
+  count = length-replicate n [];
+  pages = record {
+    once = λ i j a u v. nobody a (sym (ap (member a) (none-there n i)) ∙ u);
+    ascend = λ i. rw (none-there n i) tt;
+    within = λ i a u. nobody a (sym (ap (member a) (none-there n i)) ∙ u);
+    atMost = λ i. rw (none-there n i) (omega arith);
+  };
+  bankSmall = x;
+  packetSmall = y;
+  resultGood = z;
+  queues = record {
+    rxAllocated = λ j m. nobody j m;
+    txAllocated = λ j m. nobody j m;
+    rxDistinct = tt;
+    txDistinct = tt;
+    notBoth = λ j m. refl;
+    doneFew = omega arith;
+    doneNumbers = λ j m. nobody j m;
+  };
+}
