@@ -1,27 +1,27 @@
 -- Every step from a well-formed chip gives a well-formed chip: accesses, frames and sends, refusals too. For any size n.
 use mathlib.Core.Path.{_≡_, refl, ap, sym, _∙_}
 use mathlib.Core.Bool.{Bool, true, false, cond, not, _&&_, true≢false}
-use mathlib.Core.Logic.{_⊎_, inl, inr}
+use mathlib.Core.Logic.{inl, inr}
 use mathlib.Core.List.{List, [], _∷_, _++_}
-use Prim.Native.Nat.{ℕ, zero, suc, _+_, _-_, _*_, _≤_, _<_, _/_, _%_}
+use Prim.Native.Nat.{ℕ, zero, suc, _+_, _*_, _≤_, _<_, _/_, _%_}
 use native.Mathlib.Omega.{arith}
 use borrow.Author.Tests.{leb-true, leb-false, ltb-false}
 use lib.Dec.{eqb, leb, ltb}
-use lib.ListN.{length, getD, set, take, drop, replicate, length-set, length-take, length-replicate}
+use lib.ListN.{length, getD, set, take, length-set, length-replicate}
 use lib.Seq.{getD-set-same}
-use Rattle.rules.specs.Bits.{bit, lowByte, highByte}
-use Rattle.rules.specs.Lists.{member, some?, freeBelow, firstEmpty}
-use Rattle.rules.specs.Chip.{Registers, Pool, Chip, size, free, pagesAt, allocated, emptyPool, powered}
-use Rattle.rules.specs.Fields.{setResult, setTcr, setEphsr, setRcr, setPacket, setBank, setMask, setPages, setRx, setTx, setDone, inRegisters, inPool, inMemory}
-use Rattle.rules.specs.Answers.{Step, Turn, did, gives, refuse, refused}
+use Rattle.rules.specs.Bits.{bit, lowByte}
+use Rattle.rules.specs.Lists.{member, some?, firstEmpty}
+use Rattle.rules.specs.Chip.{Registers, Chip, size, free, pagesAt, allocated, powered}
+use Rattle.rules.specs.Fields.{setRx, setDone, inRegisters, inPool, inMemory}
+use Rattle.rules.specs.Answers.{Step, Turn}
 use Rattle.rules.specs.WellFormed.{Distinct, Formed, FormedAt, fit}
 use Rattle.rules.specs.Packet.{place, putBytes}
-use Rattle.rules.specs.Mmu.{Command, nothing, allocate, reset, removeRx, removeAndRelease, release, enqueue, resetTx, unknown, decode, perform, command, give, giveBack, grant, queued, ifIdle, ifHead}
+use Rattle.rules.specs.Mmu.{Command, nothing, allocate, reset, removeRx, removeAndRelease, release, enqueue, resetTx, unknown, decode, perform, give, queued, ifIdle, ifHead}
 use Rattle.rules.specs.Interrupts.{acknowledge}
-use Rattle.rules.specs.Data.{rcv, ifPacket, against, oddFixed, past, ifOpen, moved, readData, writeData}
-use Rattle.rules.specs.Registers.{Part, low, high, both, Register, TCR, EPHSR, RCR, ECR, MIR, RESERVED, STATION, CONTROL, COMMAND, PACKET, HEADS, POINTER, DATA, INTERRUPT, TABLE, BANK, UNUSED, ABSENT, width, bytesOf, merged, newRcr, writeRcr, softReset, forgotten, writeTcr, writeInterrupt, lowOnly, readRegister, writeRegister, registerAt, misplaced, partAt, Access, read, write, access}
-use Rattle.rules.specs.Receive.{Frame, Arrival, stored, disabled, notAccepted, tooLong, bad, noRoom, valueFor, dataLength, countOf, pagesFor, needed, accepted, destination, dropped, judge, image, stow, after, verdict, arrive}
-use Rattle.rules.specs.Send.{Send, within, usable, byteCount, good, autoRelease, retire, finish, ifSendable, byTxHead, sendDone}
+use Rattle.rules.specs.Data.{rcv, ifPacket, against, oddFixed, past, ifOpen, readData, writeData}
+use Rattle.rules.specs.Registers.{Part, low, high, both, Register, TCR, EPHSR, RCR, ECR, MIR, RESERVED, STATION, CONTROL, COMMAND, PACKET, HEADS, POINTER, DATA, INTERRUPT, TABLE, BANK, UNUSED, ABSENT, width, bytesOf, merged, newRcr, writeRcr, writeTcr, writeInterrupt, lowOnly, readRegister, writeRegister, registerAt, misplaced, partAt, Access, read, write, access}
+use Rattle.rules.specs.Receive.{Frame, Arrival, stored, disabled, notAccepted, tooLong, bad, noRoom, valueFor, dataLength, countOf, pagesFor, needed, accepted, destination, dropped, judge, after, verdict, arrive}
+use Rattle.rules.specs.Send.{Send, within, usable, byteCount, good, autoRelease, finish, ifSendable, byTxHead, sendDone}
 use Rattle.rules.specs.Step.{Input, driver, frame, sent, stepOn, stepOf}
 use Rattle.lists.specs.Facts.{if-not, or-left, or-right, member-first}
 use Rattle.laws.specs.Pool.{has-small, given-back, number-free, number-not-rx, number-not-tx, given, rx-popped, rx-joined, tx-popped, tx-joined, done-joined, done-popped, tx-and-done-emptied, beside, emptied}

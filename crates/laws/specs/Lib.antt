@@ -4,3 +4,7 @@ pub mod Count
 pub mod Pages
 pub mod Pool
 pub mod Keeps
+pub mod Accounted
+pub mod Ledger
+pub mod Told
+pub mod Balance

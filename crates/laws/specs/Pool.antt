@@ -1,19 +1,19 @@
 -- What keeps the pool well formed: pages given and given back, entries that join and leave a queue. For any size n.
 use mathlib.Core.Path.{_≡_, refl, ap, sym, subst, _∙_}
-use mathlib.Core.Bool.{Bool, true, false, true≢false}
-use mathlib.Core.Logic.{_⊎_, inl, inr, ⊎-elim}
+use mathlib.Core.Bool.{true, false, true≢false}
+use mathlib.Core.Logic.{_⊎_, ⊎-elim}
 use mathlib.Core.List.{List, [], _∷_, _++_}
-use Prim.Native.Nat.{ℕ, zero, suc, _+_, _≤_, _<_}
+use Prim.Native.Nat.{ℕ, zero, suc, _≤_, _<_}
 use native.Mathlib.Omega.{arith}
 use borrow.Author.Tests.{eq-eqb}
 use lib.Dec.{eqb}
 use lib.ListN.{length, getD, set, take, drop, replicate, length-append, length-drop, length-set, length-take, length-replicate}
-use lib.Seq.{getD-set-same, getD-set-other}
+use lib.Seq.{getD-set-other}
 use Rattle.rules.specs.Lists.{member, some?, freeBelow, firstEmpty}
 use Rattle.rules.specs.Chip.{Pool, emptyPool}
 use Rattle.rules.specs.Fields.{setPages, setRx, setTx, setDone}
 use Rattle.rules.specs.WellFormed.{Distinct, GoodPages, GoodQueues, Formed}
-use Rattle.lists.specs.Facts.{if-not, or-left, or-right, member-cases, member-first, member-later, member-append, member-free, member-take}
+use Rattle.lists.specs.Facts.{if-not, or-left, or-right, member-cases, member-later, member-append, member-free, member-take}
 use Rattle.laws.specs.Count.{unallocated}
 use Rattle.laws.specs.Pages.{granted-ascend, owned-in, first-empty, set-good}
 

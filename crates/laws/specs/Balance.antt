@@ -1,0 +1,79 @@
+-- The ledger balances: the free pages with the pages granted are 24 with the pages given back. For any size n up to 128.
+use mathlib.Core.Path.{_≡_, refl, ap, ap₂, sym, _∙_}
+use mathlib.Core.List.{List, [], _∷_, map}
+use Prim.Native.Nat.{ℕ, zero, suc, _+_, _≤_, _<_}
+use native.Mathlib.Omega.{arith}
+use lib.ListN.{length, getD, set, replicate, List·getD-map}
+use Rattle.rules.specs.Chip.{Chip, free, powered}
+use Rattle.rules.specs.Step.{Input, stepOf, runOf}
+use Rattle.laws.specs.Count.{total, free-and-total}
+use Rattle.laws.specs.Keeps.{Fits, keeps, powered-fits}
+use Rattle.laws.specs.Ledger.{Entry, grants, returns, restarts, leaves, entryOf, Ledger, blank, entered, ledgerFrom}
+use Rattle.laws.specs.Told.{Applies, told}
+
+-- One list replaced, and all emptied: how many pages there are, and how long each list is.
+total-set : (ls : List (List ℕ)) (k : ℕ) (l : List ℕ) → k < length ls → total (set ls k l) + length (getD ls k []) ≡ total ls + length l
+unfolding total
+total-set [] k l h = absurd (omega arith)
+total-set (x ∷ xs) zero l h = omega arith
+total-set (x ∷ xs) (suc k) l h = omega (arith, total-set xs k l (omega arith))
+
+total-none : (n : ℕ) → total (replicate n []) ≡ 0
+unfolding total
+total-none zero = refl
+total-none (suc n) = omega (arith, total-none n)
+
+lengths-set : (ls : List (List ℕ)) (k : ℕ) (l : List ℕ) → map length (set ls k l) ≡ set (map length ls) k (length l)
+lengths-set [] k l = refl
+lengths-set (x ∷ xs) zero l = refl
+lengths-set (x ∷ xs) (suc k) l = ap (λ (t : List ℕ). length x ∷ t) (lengths-set xs k l)
+
+lengths-none : (n : ℕ) → map length (replicate {A = List ℕ} n []) ≡ replicate n 0
+lengths-none zero = refl
+lengths-none (suc n) = ap (λ (t : List ℕ). 0 ∷ t) (lengths-none n)
+
+-- the ledger knows what each packet number has, and no page is lost between its two columns
+pub record Balanced (ls : List (List ℕ)) (l : Ledger) : Type 0 where
+  pub holds : map length ls ≡ l .holds
+  pub even : l .granted ≡ total ls + l .back
+
+-- Each entry keeps the balance.
+entry-balanced : (n : ℕ) (e : Entry) (a b : List (List ℕ)) (l : Ledger) → length a ≡ n → Applies n e a b → Balanced a l → Balanced b (entered e n l)
+unfolding entered
+entry-balanced n (grants k m) a b l z p h = record {
+  holds = rw (p .4) (lengths-set a k (p .0) ∙ ap₂ (λ (x : List ℕ) (y : ℕ). set x k y) (h .holds) (p .3));
+  even = rw (p .4) (omega (arith, total-set a k (p .0) (omega (arith, p .1)), ap length (p .2), p .3, h .even));
+}
+entry-balanced n (returns k) a b l z p h =
+    let had : getD (l .holds) k 0 ≡ length (getD a k []) = ap (λ (x : List ℕ). getD x k 0) (sym (h .holds)) ∙ List·getD-map length a k [] in
+    record {
+      holds = rw (p .1) (lengths-set a k [] ∙ ap (λ (x : List ℕ). set x k 0) (h .holds));
+      even = rw (p .1) (omega (arith, total-set a k [] (omega (arith, p .0)), had, h .even));
+    }
+entry-balanced n restarts a b l z p h = record { holds = rw p (lengths-none n); even = rw p (omega (arith, total-none n)) }
+entry-balanced n leaves a b l z p h = record { holds = rw p (h .holds); even = rw p (h .even) }
+
+-- Over any list of inputs, from a chip and a ledger that balance.
+module _ (n : ℕ) (small : n ≤ 128) where
+  -- the chip after inputs that are run one after another is well formed
+  pub run-fits : (inputs : List Input) (c : Chip) (out : List ℕ) → Fits n c → Fits n (runOf n inputs c out .chip)
+  unfolding runOf
+  run-fits [] c out w = w
+  run-fits (i ∷ is) c out w = run-fits is (stepOf n i c out .chip) (stepOf n i c out .output) (keeps n c w i out)
+
+  run-balanced : (inputs : List Input) (c : Chip) (out : List ℕ) (l : Ledger) → Fits n c → Balanced (c .pool .pages) l → Balanced (runOf n inputs c out .chip .pool .pages) (ledgerFrom n inputs c out l)
+  unfolding runOf ledgerFrom
+  run-balanced [] c out l w h = h
+  run-balanced (i ∷ is) c out l w h =
+      let t = stepOf n i c out in
+      run-balanced is (t .chip) (t .output) (entered (entryOf i c t) n l) (keeps n c w i out)
+      (entry-balanced n (entryOf i c t) (c .pool .pages) (t .chip .pool .pages) l (w .0 .count) (told n small c w i out) h)
+
+  -- For every history: free pages and pages granted are n and pages given back.
+  pub balances : (inputs : List Input) (out : List ℕ)
+      → length (free (runOf n inputs (powered n) out .chip)) + ledgerFrom n inputs (powered n) out (blank n) .granted ≡ n + ledgerFrom n inputs (powered n) out (blank n) .back
+  balances inputs out =
+      let c = runOf n inputs (powered n) out .chip in
+      let w = run-fits inputs (powered n) out (powered-fits n) in
+      let b = run-balanced inputs (powered n) out (blank n) (powered-fits n) (record { holds = lengths-none n; even = omega (arith, total-none n) }) in
+      omega (arith, b .even, free-and-total (length (c .pool .pages)) (c .pool .pages) (rw (w .0 .count) (w .0 .pages)), w .0 .count)
