@@ -1,0 +1,156 @@
+// The page map: for each packet number its row of pages.
+use crate::Packet;
+use crate::Page;
+use crate::row::count;
+use crate::row::holds;
+use crate::row::nth;
+use crate::row::unused;
+ghost use mathlib.Core.Path.{_≡_};
+ghost use mathlib.Core.List.{List, [], _∷_};
+ghost use Prim.Native.Nat.{ℕ, _≤_, _<_};
+ghost use lib.ListN.{length, take, drop, set, getD, replicate};
+ghost use Rattle.rules.specs.Lists.{owned, some?, firstEmpty, freeBelow};
+ghost use Rattle.store.specs.Views.{used, rowOf, pagesOf, SoundMap};
+
+// Does a packet from number `from` on own the page?
+pub fn owned_from(map: [[Page; 8]; 24], from: usize, page: Page) -> bool
+    requires { ⌜ from ≤ 24 ⌝ }
+    ensures { λ r. ⌜ r ≡ owned (page .0) (drop from (pagesOf map)) ⌝ }
+{
+    let mut k = from;
+    while k < 24 {
+        if holds(map[k], page) {
+            return true;
+        }
+        k += 1;
+    }
+    false
+}
+
+// Does a packet own the page?
+pub fn is_owned(map: [[Page; 8]; 24], page: Page) -> bool
+    ensures { λ r. ⌜ r ≡ owned (page .0) (pagesOf map) ⌝ }
+{
+    owned_from(map, 0, page)
+}
+
+// The packet's row: no pages where it is not allocated.
+pub fn row_of(map: [[Page; 8]; 24], packet: Packet) -> [Page; 8]
+    ensures { λ r. ⌜ used r ≡ getD (pagesOf map) (packet .0) [] ⌝ }
+{
+    let k = packet.0 as usize;
+    if 24 <= k {
+        return [Page(255); 8];
+    }
+    map[k]
+}
+
+// Has the packet pages?
+pub fn allocated(map: [[Page; 8]; 24], packet: Packet) -> bool
+    ensures { λ r. ⌜ r ≡ some? (getD (pagesOf map) (packet .0) []) ⌝ }
+{
+    !unused(row_of(map, packet))
+}
+
+// How many pages the packet has.
+pub fn page_count(map: [[Page; 8]; 24], packet: Packet) -> usize
+    ensures { λ r. ⌜ r ≡ length (getD (pagesOf map) (packet .0) []) ⌝ }
+{
+    count(row_of(map, packet))
+}
+
+// Page k of the packet.
+pub fn page_at(map: [[Page; 8]; 24], packet: Packet, k: usize) -> Page
+    requires { ⌜ k < length (getD (pagesOf map) (packet .0) []) ⌝ }
+    ensures { λ r. ⌜ r .0 ≡ getD (getD (pagesOf map) (packet .0) []) k 0 ⌝ }
+{
+    nth(row_of(map, packet), k)
+}
+
+// The lowest number with no pages, and 24 where each has some.
+pub fn lowest_unallocated(map: [[Page; 8]; 24]) -> usize
+    ensures { λ r. ⌜ r ≡ firstEmpty (pagesOf map) ⌝ }
+{
+    let mut number = 0;
+    loop {
+        if 24 <= number {
+            break number;
+        }
+        if unused(map[number]) {
+            break number;
+        }
+        number += 1;
+    }
+}
+
+// How many pages no packet owns.
+pub fn free_count(map: [[Page; 8]; 24]) -> usize
+    ensures { λ r. ⌜ r ≡ length (freeBelow 24 (pagesOf map)) ⌝ }
+{
+    let mut n = 0;
+    let mut p: u8 = 0;
+    while p < 24 {
+        if !is_owned(map, Page(p)) {
+            n += 1;
+        }
+        p += 1;
+    }
+    n
+}
+
+// The lowest pages that no packet owns, `need` of them or as many as there are.
+pub fn lowest_free(map: [[Page; 8]; 24], need: usize) -> [Page; 8]
+    requires { ⌜ need ≤ 8 ⌝ }
+    ensures { λ r. ⌜ r ≡ rowOf (take need (freeBelow 24 (pagesOf map))) ⌝ }
+{
+    let mut row = [Page(255); 8];
+    let mut got = 0;
+    let mut p: u8 = 0;
+    'pages: while p < 24 {
+        if got == need {
+            break;
+        }
+        let mut k = 0;
+        while k < 24 {
+            if holds(map[k], Page(p)) {
+                p += 1;
+                continue 'pages;
+            }
+            k += 1;
+        }
+        row[got] = Page(p);
+        got += 1;
+        p += 1;
+    }
+    row
+}
+
+// No packet has pages.
+pub fn cleared() -> [[Page; 8]; 24]
+    ensures { λ r. ⌜ (pagesOf r ≡ replicate 24 []) × SoundMap r ⌝ }
+{
+    let row = [Page(255); 8];
+    [row; 24]
+}
+
+// The packet's pages are free.
+pub fn released(map: [[Page; 8]; 24], packet: Packet) -> [[Page; 8]; 24]
+    requires { ⌜ (packet .0 < 24) × SoundMap map ⌝ }
+    ensures { λ r. ⌜ (pagesOf r ≡ set (pagesOf map) (packet .0) []) × SoundMap r ⌝ }
+{
+    let mut next = map;
+    let row = [Page(255); 8];
+    next[packet.0 as usize] = row;
+    next
+}
+
+// The packet has the `need` lowest free pages.
+pub fn granted(map: [[Page; 8]; 24], packet: Packet, need: usize) -> [[Page; 8]; 24]
+    requires { ⌜ (packet .0 < 24) × (need ≤ 8) × SoundMap map ⌝ }
+    ensures { λ r. ⌜ (pagesOf r ≡ set (pagesOf map) (packet .0) (take need (freeBelow 24 (pagesOf map)))) × SoundMap r ⌝ }
+{
+    let mut next = map;
+    let row = lowest_free(map, need);
+    next[packet.0 as usize] = row;
+    next
+}
