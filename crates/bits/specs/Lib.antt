@@ -1,0 +1,2 @@
+-- Laws of the rules' bits, for those who call the functions of this crate.
+pub mod Laws

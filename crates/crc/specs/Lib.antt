@@ -1,0 +1,1 @@
+-- No definitions of its own: the contracts cite those of rules.
