@@ -1,2 +1,3 @@
 -- What follows from the rules. The modules tell the story in this order.
 pub mod Example
+pub mod Numbers
