@@ -1,3 +1,4 @@
 -- What follows from the rules. The modules tell the story in this order.
 pub mod Example
 pub mod Numbers
+pub mod Refusals
