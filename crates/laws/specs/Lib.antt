@@ -2,3 +2,4 @@
 pub mod Example
 pub mod Numbers
 pub mod Refusals
+pub mod Fit
