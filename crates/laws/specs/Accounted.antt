@@ -15,7 +15,8 @@ use Rattle.rules.specs.WellFormed.{Above, Ascending, FormedAt}
 use Rattle.rules.specs.Step.{Input, stepOf}
 use Rattle.lists.specs.Facts.{if-not, or-true, member-cases, member-first, member-later, member-free}
 use Rattle.laws.specs.Count.{above-least}
-use Rattle.laws.specs.Pages.{owned-in, first-empty}
+use Rattle.lists.specs.Owned.{owned-in}
+use Rattle.laws.specs.Pages.{first-empty}
 use Rattle.laws.specs.Pool.{number-free}
 use Rattle.laws.specs.Keeps.{Fits, keeps}
 

@@ -11,34 +11,25 @@ use lib.ListN.{length, getD, set, take, length-set, length-replicate}
 use lib.Seq.{getD-set-same}
 use Rattle.rules.specs.Bits.{bit, lowByte}
 use Rattle.rules.specs.Lists.{member, some?, firstEmpty}
-use Rattle.rules.specs.Chip.{Registers, Chip, size, free, pagesAt, allocated, powered}
+use Rattle.rules.specs.Chip.{Registers, Chip, size, free, pagesAt, powered}
 use Rattle.rules.specs.Fields.{setRx, setDone, inRegisters, inPool, inMemory}
-use Rattle.rules.specs.Answers.{Step, Turn}
+use Rattle.rules.specs.Answers.{Step, Turn, refuse}
 use Rattle.rules.specs.WellFormed.{Distinct, Formed, FormedAt, fit}
 use Rattle.rules.specs.Packet.{place, putBytes}
-use Rattle.rules.specs.Mmu.{Command, nothing, allocate, reset, removeRx, removeAndRelease, release, enqueue, resetTx, unknown, decode, perform, give, queued, ifIdle, ifHead}
+use Rattle.rules.specs.Mmu.{Command, nothing, allocate, reset, removeRx, removeAndRelease, release, enqueue, resetTx, unknown, decode, perform, give}
 use Rattle.rules.specs.Interrupts.{acknowledge}
-use Rattle.rules.specs.Data.{rcv, ifPacket, against, oddFixed, past, ifOpen, readData, writeData}
-use Rattle.rules.specs.Registers.{Part, low, high, both, Register, TCR, EPHSR, RCR, ECR, MIR, RESERVED, STATION, CONTROL, COMMAND, PACKET, HEADS, POINTER, DATA, INTERRUPT, TABLE, BANK, UNUSED, ABSENT, width, bytesOf, merged, newRcr, writeRcr, writeTcr, writeInterrupt, lowOnly, readRegister, writeRegister, registerAt, misplaced, partAt, Access, read, write, access}
+use Rattle.rules.specs.Data.{readData, writeData}
+use Rattle.rules.specs.Registers.{Part, low, high, both, Register, TCR, EPHSR, RCR, ECR, MIR, RESERVED, STATION, CONTROL, COMMAND, PACKET, HEADS, POINTER, DATA, INTERRUPT, TABLE, BANK, UNUSED, ABSENT, width, bytesOf, merged, newRcr, writeRcr, writeTcr, writeInterrupt, readRegister, writeRegister, registerAt, misplaced, partAt, Access, read, write, access}
 use Rattle.rules.specs.Receive.{Frame, Arrival, stored, disabled, notAccepted, tooLong, bad, noRoom, valueFor, dataLength, countOf, pagesFor, needed, accepted, destination, dropped, judge, after, verdict, arrive}
 use Rattle.rules.specs.Send.{Send, within, usable, byteCount, good, autoRelease, finish, ifSendable, byTxHead, sendDone}
 use Rattle.rules.specs.Step.{Input, driver, frame, sent, stepOn, stepOf}
-use Rattle.lists.specs.Facts.{if-not, or-left, or-right, member-first}
+use Rattle.lists.specs.Facts.{if-not, member-first}
+use Rattle.laws.specs.Cases.{pick, pick-by, by-head, by-idle, by-packet, by-tests, by-part}
 use Rattle.laws.specs.Pool.{has-small, given-back, number-free, number-not-rx, number-not-tx, given, rx-popped, rx-joined, tx-popped, tx-joined, done-joined, done-popped, tx-and-done-emptied, beside, emptied}
 
 -- what refusal 16 asks of a chip with n pages
 abbrev pub Fits : ℕ → Chip → Type 0
 Fits n c = FormedAt n c × (length (c .memory) ≡ 256 * n)
-
--- What holds of both branches holds of a test.
-pub pick : {A : Type 0} (P : A → Type 0) (b : Bool) {x y : A} → P x → P y → P (cond b x y)
-pick P true p q = p
-pick P false p q = q
-
--- The same, where each branch may use its test's answer.
-pub pick-by : {A : Type 0} (P : A → Type 0) (b : Bool) {x y : A} → (b ≡ true → P x) → (b ≡ false → P y) → P (cond b x y)
-pick-by P true p q = p refl
-pick-by P false p q = q refl
 
 -- Writing bytes keeps the memory's length.
 pub length-put : (bytes : List ℕ) (a : ℕ) (pages memory : List ℕ) → length (putBytes bytes a pages memory) ≡ length memory
@@ -79,21 +70,12 @@ module _ (n : ℕ) where
   Kept s = Fits n (s .chip)
 
   module _ (c : Chip) (w : Fits n c) where
+    no : (k : ℕ) → Kept (refuse (suc k) c)
+    no k = w
+
     -- The RX head k is in range, and not in TX nor again in RX.
     head-small : (k : ℕ) (ks : List ℕ) → c .pool .rx ≡ k ∷ ks → k < n
     head-small k ks e = omega (arith, has-small (c .pool .pages) k (w .0 .queues .rxAllocated k (rw e (member-first k ks))), w .0 .count)
-
-    by-head : (f : ℕ → List ℕ → Step) (l : List ℕ) → ((k : ℕ) (ks : List ℕ) → l ≡ k ∷ ks → Kept (f k ks)) → Kept (ifHead c l f)
-    by-head f [] h = w
-    by-head f (k ∷ ks) h = h k ks refl
-
-    -- Refusals 5 and 6, else the step, of an allocated packet in neither queue.
-    idle : (s : Step) → (allocated (c .regs .packet) c ≡ true → member (c .regs .packet) (c .pool .rx) ≡ false → member (c .regs .packet) (c .pool .tx) ≡ false → Kept s) → Kept (ifIdle c s)
-    idle s f =
-        let k = c .regs .packet in
-        pick-by Kept (allocated k c)
-        (λ a. pick-by Kept (queued k c) (λ q. w) (λ q. f a (or-left (member k (c .pool .rx)) (member k (c .pool .tx)) q) (or-right (member k (c .pool .rx)) (member k (c .pool .tx)) q)))
-        (λ a. w)
 
     pub keeps-perform : (k : Command) → Valid k → Kept (perform k c)
     unfolding perform
@@ -108,43 +90,32 @@ module _ (n : ℕ) where
         ))
         (λ e. (beside (w .0) (w .0 .bankSmall) (w .0 .packetSmall) (inr refl), w .1))
     keeps-perform reset v = (rw (w .0 .count) (emptied n (w .0 .bankSmall) (w .0 .packetSmall) (inr refl)), w .1)
-    keeps-perform removeRx v = by-head _ (c .pool .rx) (λ k ks e. (rx-popped (w .0) k ks e, w .1))
+    keeps-perform removeRx v = by-head c Kept no _ (c .pool .rx) (λ k ks e. (rx-popped (w .0) k ks e, w .1))
     keeps-perform removeAndRelease v =
-        by-head _ (c .pool .rx)
+        by-head c Kept no _ (c .pool .rx)
         (λ k ks e. let q = w .0 .queues in
         let d : Distinct (k ∷ ks) = rw e at (q .rxDistinct) in
         let m : member k (c .pool .rx) ≡ true = rw e (member-first k ks) in
         (given-back (rx-popped (w .0) k ks e) k (head-small k ks e) (λ x. true≢false (sym x ∙ d .0)) (λ x. true≢false (sym x ∙ q .notBoth k m)), w .1))
     keeps-perform release v =
-        idle _
+        by-idle c Kept no _
         (λ a r t. (
           given-back (w .0) (c .regs .packet) (omega (arith, has-small (c .pool .pages) (c .regs .packet) a, w .0 .count))
               (λ x. true≢false (sym x ∙ r)) (λ x. true≢false (sym x ∙ t)),
           w .1,
         ))
-    keeps-perform enqueue v = idle _ (λ a r t. (tx-joined (w .0) (c .regs .packet) a r t, w .1))
+    keeps-perform enqueue v = by-idle c Kept no _ (λ a r t. (tx-joined (w .0) (c .regs .packet) a r t, w .1))
     keeps-perform resetTx v = (tx-and-done-emptied (w .0), w .1)
     keeps-perform unknown v = w
 
     -- Data accesses: only the pointer and bytes of memory change.
-    by-packet : (f : List ℕ → Step) → ((pages : List ℕ) → Kept (f pages)) → Kept (ifPacket c f)
-    unfolding ifPacket
-    by-packet f h =
-        pick Kept (rcv (c .regs .pointer)) (by-head _ (c .pool .rx) (λ k ks e. h (pagesAt c k))) (pick Kept (allocated (c .regs .packet) c) (h (pagesAt c (c .regs .packet))) w)
-
-    by-tests : (isRead : Bool) (wide : ℕ) (pages : List ℕ) (s : Step) → Kept s → Kept (ifOpen isRead wide pages c s)
-    unfolding ifOpen
-    by-tests isRead wide pages s h =
-        let p = c .regs .pointer in
-        pick Kept (against isRead p) w (pick Kept (oddFixed p) w (pick Kept (past wide p pages) w h))
-
     keeps-read-data : (wide : ℕ) → Kept (readData wide c)
     unfolding readData
-    keeps-read-data wide = by-packet _ (λ pages. by-tests true wide pages _ w)
+    keeps-read-data wide = by-packet c Kept no _ (λ pages. by-tests c Kept no true wide pages _ w)
 
     keeps-write-data : (bytes : List ℕ) → Kept (writeData bytes c)
     unfolding writeData
-    keeps-write-data bytes = by-packet _ (λ pages. by-tests false (length bytes) pages _ (w .0, length-put bytes _ pages (c .memory) ∙ w .1))
+    keeps-write-data bytes = by-packet c Kept no _ (λ pages. by-tests c Kept no false (length bytes) pages _ (w .0, length-put bytes _ pages (c .memory) ∙ w .1))
 
     -- Registers.
     pub keeps-read : (r : Register) (p : Part) → Kept (readRegister r p c)
@@ -167,12 +138,6 @@ module _ (n : ℕ) where
     keeps-read BANK p = w
     keeps-read UNUSED p = w
     keeps-read ABSENT p = w
-
-    in-low : (p : Part) (s : Step) → Kept s → Kept (lowOnly p c s)
-    unfolding lowOnly
-    in-low low s h = h
-    in-low high s h = w
-    in-low both s h = h
 
     -- A soft reset, and nothing else, empties the pool.
     keeps-rcr : (x : ℕ) → Fits n (writeRcr x c)
@@ -203,17 +168,17 @@ module _ (n : ℕ) where
     keeps-write RCR p v = keeps-rcr (newRcr p v (c .regs .rcr))
     keeps-write ECR p v = w
     keeps-write MIR p v = w
-    keeps-write RESERVED p v = in-low p _ w
+    keeps-write RESERVED p v = by-part c Kept no p _ w
     keeps-write (STATION k) p v = w
     keeps-write CONTROL p v = w
-    keeps-write COMMAND p v = in-low p _ (keeps-perform (decode (lowByte v)) (decode-valid (lowByte v)))
-    keeps-write PACKET p v = in-low p _ (beside (w .0) (w .0 .bankSmall) (omega arith) (w .0 .resultGood), w .1)
+    keeps-write COMMAND p v = by-part c Kept no p _ (keeps-perform (decode (lowByte v)) (decode-valid (lowByte v)))
+    keeps-write PACKET p v = by-part c Kept no p _ (beside (w .0) (w .0 .bankSmall) (omega arith) (w .0 .resultGood), w .1)
     keeps-write HEADS p v = w
     keeps-write POINTER p v = w
     keeps-write DATA p v = keeps-write-data (bytesOf p v)
     keeps-write INTERRUPT p v = keeps-interrupt p v
     keeps-write (TABLE k) p v = w
-    keeps-write BANK p v = in-low p _ (beside (w .0) (omega arith) (w .0 .packetSmall) (w .0 .resultGood), w .1)
+    keeps-write BANK p v = by-part c Kept no p _ (beside (w .0) (omega arith) (w .0 .packetSmall) (w .0 .resultGood), w .1)
     keeps-write UNUSED p v = w
     keeps-write ABSENT p v = w
 

@@ -15,7 +15,8 @@ use Rattle.rules.specs.Fields.{setPages, setRx, setTx, setDone}
 use Rattle.rules.specs.WellFormed.{Distinct, GoodPages, GoodQueues, Formed}
 use Rattle.lists.specs.Facts.{if-not, or-left, or-right, member-cases, member-later, member-append, member-free, member-take}
 use Rattle.laws.specs.Count.{unallocated}
-use Rattle.laws.specs.Pages.{granted-ascend, owned-in, first-empty, set-good}
+use Rattle.lists.specs.Owned.{owned-in}
+use Rattle.laws.specs.Pages.{granted-ascend, first-empty, set-good}
 
 -- An allocated number is in range.
 pub has-small : (ls : List (List ℕ)) (i : ℕ) → some? (getD ls i []) ≡ true → i < length ls

@@ -2,27 +2,28 @@
 use mathlib.Core.Path.{_≡_, refl, ap, _∙_}
 use mathlib.Core.Bool.{Bool, true, false, cond, not, _&&_}
 use mathlib.Core.List.{List, [], _∷_, _++_}
-use Prim.Native.Nat.{ℕ, _≤_, _<_}
+use Prim.Native.Nat.{ℕ, suc, _≤_, _<_}
 use native.Mathlib.Omega.{arith}
 use borrow.Author.Tests.{leb-true, ne-eqb}
-use lib.Dec.{eqb, leb, ltb}
+use lib.Dec.{eqb·suc-zero, eqb, leb, ltb}
 use lib.ListN.{length, getD, set, take, replicate, length-take}
 use Rattle.rules.specs.Bits.{bit, lowByte}
 use Rattle.rules.specs.Lists.{firstEmpty}
 use Rattle.rules.specs.Chip.{Chip, size, free, pagesAt, allocated}
 use Rattle.rules.specs.Fields.{setRcr, inRegisters}
-use Rattle.rules.specs.Answers.{Reply, Step, Turn, did, gives}
+use Rattle.rules.specs.Answers.{Reply, Step, Turn, refuse, did, gives}
 use Rattle.rules.specs.WellFormed.{fit}
-use Rattle.rules.specs.Mmu.{Command, nothing, allocate, reset, removeRx, removeAndRelease, release, enqueue, resetTx, unknown, decode, perform, giveBack, queued, ifIdle, ifHead}
-use Rattle.rules.specs.Data.{rcv, ifPacket, against, oddFixed, past, ifOpen, readData, writeData}
-use Rattle.rules.specs.Registers.{Part, low, high, both, Register, TCR, EPHSR, RCR, ECR, MIR, RESERVED, STATION, CONTROL, COMMAND, PACKET, HEADS, POINTER, DATA, INTERRUPT, TABLE, BANK, UNUSED, ABSENT, width, bytesOf, newRcr, writeRcr, softReset, writeInterrupt, lowOnly, readRegister, writeRegister, headOf, registerAt, misplaced, partAt, Access, read, write, access}
+use Rattle.rules.specs.Mmu.{Command, nothing, allocate, reset, removeRx, removeAndRelease, release, enqueue, resetTx, unknown, decode, perform, giveBack}
+use Rattle.rules.specs.Data.{readData, writeData}
+use Rattle.rules.specs.Registers.{Part, low, high, both, Register, TCR, EPHSR, RCR, ECR, MIR, RESERVED, STATION, CONTROL, COMMAND, PACKET, HEADS, POINTER, DATA, INTERRUPT, TABLE, BANK, UNUSED, ABSENT, width, bytesOf, newRcr, writeRcr, softReset, writeInterrupt, readRegister, writeRegister, headOf, registerAt, misplaced, partAt, Access, read, write, access}
 use Rattle.rules.specs.Receive.{Frame, Arrival, stored, disabled, notAccepted, tooLong, bad, noRoom, valueFor, needed, after, verdict, arrive}
 use Rattle.rules.specs.Send.{Send, within, usable, byteCount, good, autoRelease, finish, ifSendable, byTxHead, sendDone}
 use Rattle.rules.specs.Step.{Input, driver, frame, sent, stepOn, stepOf}
 use Rattle.lists.specs.Facts.{member-first}
 use Rattle.laws.specs.Pages.{first-empty}
+use Rattle.laws.specs.Cases.{pick, pick-by, by-head, by-idle, by-packet, by-tests, by-part}
 use Rattle.laws.specs.Pool.{has-small, number-free}
-use Rattle.laws.specs.Keeps.{Fits, pick, pick-by, Valid, decode-valid, storable, needs-one}
+use Rattle.laws.specs.Keeps.{Fits, Valid, decode-valid, storable, needs-one}
 use Rattle.laws.specs.Ledger.{Entry, grants, returns, restarts, leaves, lastOf, commandEntry, writeEntry, inputEntry, entryOf}
 
 -- what an entry says of the page lists before and after it
@@ -57,12 +58,11 @@ module _ (n : ℕ) (small : n ≤ 128) (c : Chip) (w : Fits n c) where
   abbrev ToldBy : Reads → Step → Type 0
   ToldBy e s = Told e (s .reply) (s .chip)
 
-  by-head : (e : Reads) (f : ℕ → List ℕ → Step) (l : List ℕ) → ((k : ℕ) (ks : List ℕ) → l ≡ k ∷ ks → ToldBy e (f k ks)) → ToldBy e (ifHead c l f)
-  by-head e f [] h = refl
-  by-head e f (k ∷ ks) h = h k ks refl
+  abbrev Left : Step → Type 0
+  Left s = ToldBy still s
 
-  idle : (e : Reads) (s : Step) → (allocated (c .regs .packet) c ≡ true → ToldBy e s) → ToldBy e (ifIdle c s)
-  idle e s f = pick-by (ToldBy e) (allocated (c .regs .packet) c) (λ a. pick (ToldBy e) (queued (c .regs .packet) c) refl (f a)) (λ a. refl)
+  no : (e : Reads) (k : ℕ) → ToldBy e (refuse (suc k) c)
+  no e k = rw (eqb·suc-zero k) refl
 
   in-range : (k : ℕ) → allocated k c ≡ true → k < n
   in-range k a = omega (arith, has-small (c .pool .pages) k a, w .0 .count)
@@ -83,29 +83,14 @@ module _ (n : ℕ) (small : n ≤ 128) (c : Chip) (w : Fits n c) where
       rw (ne-eqb k 0x80 (omega (arith, u))) (grants-lowest m (v .0) h))
       (λ t. refl)
   told-command reset v = ap (λ (x : ℕ). replicate x []) (w .0 .count)
-  told-command removeRx v = by-head still _ (c .pool .rx) (λ k ks e. refl)
+  told-command removeRx v = by-head c Left (no still) _ (c .pool .rx) (λ k ks e. refl)
   told-command removeAndRelease v =
-      by-head (λ x d. returns (headOf (c .pool .rx))) _ (c .pool .rx)
+      by-head c (ToldBy (λ x d. returns (headOf (c .pool .rx)))) (no (λ x d. returns (headOf (c .pool .rx)))) _ (c .pool .rx)
       (λ k ks e. rw (ap headOf e ∙ headOf-first k ks) (in-range k (w .0 .queues .rxAllocated k (rw e (member-first k ks))), refl))
-  told-command release v = idle (λ x d. returns (c .regs .packet)) (did (giveBack (c .regs .packet) c)) (λ a. (in-range (c .regs .packet) a, refl))
-  told-command enqueue v = idle still _ (λ a. refl)
+  told-command release v = by-idle c (ToldBy (λ x d. returns (c .regs .packet))) (no (λ x d. returns (c .regs .packet))) (did (giveBack (c .regs .packet) c)) (λ a r t. (in-range (c .regs .packet) a, refl))
+  told-command enqueue v = by-idle c Left (no still) _ (λ a r t. refl)
   told-command resetTx v = refl
   told-command unknown v = refl
-
-  -- Accesses that leave the page lists.
-  abbrev Left : Step → Type 0
-  Left s = ToldBy still s
-
-  by-packet : (f : List ℕ → Step) → ((l : List ℕ) → Left (f l)) → Left (ifPacket c f)
-  unfolding ifPacket
-  by-packet f h =
-      pick Left (rcv (c .regs .pointer)) (by-head still _ (c .pool .rx) (λ k ks e. h (pagesAt c k))) (pick Left (allocated (c .regs .packet) c) (h (pagesAt c (c .regs .packet))) refl)
-
-  by-tests : (isRead : Bool) (wide : ℕ) (l : List ℕ) (s : Step) → Left s → Left (ifOpen isRead wide l c s)
-  unfolding ifOpen
-  by-tests isRead wide l s h =
-      let p = c .regs .pointer in
-      pick Left (against isRead p) refl (pick Left (oddFixed p) refl (pick Left (past wide p l) refl h))
 
   told-read : (r : Register) (p : Part) → Left (readRegister r p c)
   unfolding readRegister readData
@@ -121,18 +106,12 @@ module _ (n : ℕ) (small : n ≤ 128) (c : Chip) (w : Fits n c) where
   told-read PACKET p = refl
   told-read HEADS p = refl
   told-read POINTER p = refl
-  told-read DATA p = by-packet _ (λ l. by-tests true (width p) l _ refl)
+  told-read DATA p = by-packet c Left (no still) _ (λ l. by-tests c Left (no still) true (width p) l _ refl)
   told-read INTERRUPT p = refl
   told-read (TABLE k) p = refl
   told-read BANK p = refl
   told-read UNUSED p = refl
   told-read ABSENT p = refl
-
-  in-low : (e : Reads) (p : Part) (s : Step) → ToldBy e s → ToldBy e (lowOnly p c s)
-  unfolding lowOnly
-  in-low e low s h = h
-  in-low e high s h = refl
-  in-low e both s h = h
 
   -- A write to RCR leaves bit 15 set exactly when it resets.
   told-rcr : (x : ℕ) → Applies n (cond (bit 15 (writeRcr x c .regs .rcr)) restarts leaves) (c .pool .pages) (writeRcr x c .pool .pages)
@@ -157,17 +136,17 @@ module _ (n : ℕ) (small : n ≤ 128) (c : Chip) (w : Fits n c) where
   told-write RCR p v = told-rcr (newRcr p v (c .regs .rcr))
   told-write ECR p v = refl
   told-write MIR p v = refl
-  told-write RESERVED p v = in-low still p _ refl
+  told-write RESERVED p v = by-part c Left (no still) p _ refl
   told-write (STATION k) p v = refl
   told-write CONTROL p v = refl
-  told-write COMMAND p v = in-low (λ x d. commandEntry (decode (lowByte v)) c d) p _ (told-command (decode (lowByte v)) (decode-valid (lowByte v)))
-  told-write PACKET p v = in-low still p _ refl
+  told-write COMMAND p v = by-part c (ToldBy (λ x d. commandEntry (decode (lowByte v)) c d)) (no (λ x d. commandEntry (decode (lowByte v)) c d)) p _ (told-command (decode (lowByte v)) (decode-valid (lowByte v)))
+  told-write PACKET p v = by-part c Left (no still) p _ refl
   told-write HEADS p v = refl
   told-write POINTER p v = refl
-  told-write DATA p v = by-packet _ (λ l. by-tests false (length (bytesOf p v)) l _ refl)
+  told-write DATA p v = by-packet c Left (no still) _ (λ l. by-tests c Left (no still) false (length (bytesOf p v)) l _ refl)
   told-write INTERRUPT p v = told-interrupt p v
   told-write (TABLE k) p v = refl
-  told-write BANK p v = in-low still p _ refl
+  told-write BANK p v = by-part c Left (no still) p _ refl
   told-write UNUSED p v = refl
   told-write ABSENT p v = refl
 

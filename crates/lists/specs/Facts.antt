@@ -1,19 +1,21 @@
 -- Facts of the lists of `rules`, over any size.
 use mathlib.Core.Path.{_≡_, refl, ap, sym, _∙_}
-use mathlib.Core.Bool.{Bool, true, false, _||_, true≢false}
+use mathlib.Core.Bool.{Bool, true, false, not, _&&_, _||_, true≢false}
 use mathlib.Core.Logic.{_⊎_, inl, inr, ⊎-elim}
 use mathlib.Core.List.{List, [], _∷_, _++_, append-nil, append-assoc}
 use Prim.Native.Nat.{ℕ, zero, suc, _+_, _≤_, _<_}
 use native.Mathlib.Numerals.{add-one}
 use native.Mathlib.Omega.{arith}
 use native.Mathlib.Decide.{decLe}
-use borrow.Author.Tests.{eq-eqb, ne-eqb, eqb-true}
-use lib.Dec.{eqb}
+use borrow.Author.Tests.{eq-eqb, ne-eqb, eqb-true, le-leb, leb-true, lt-ltb, ltb-true, not-true}
+use lib.Dec.{eqb, leb, ltb}
 use lib.ListN.{length, take, drop, getD, length-append}
 use lib.Seq.{drop-cons, take-append-seam}
 use Rattle.rules.specs.Lists.{member, some?, owned, unless, freeBelow, firstEmpty}
 
 -- Tests.
+infixl 35 _and_
+infixl 30 _or_
 pub if-not : (b : Bool) → (b ≡ true → ⊥) → b ≡ false
 if-not true h = absurd (h refl)
 if-not false h = refl
@@ -33,6 +35,42 @@ or-left false b e = refl
 pub or-right : (a b : Bool) → a || b ≡ false → b ≡ false
 or-right true b e = absurd (true≢false e)
 or-right false b e = e
+
+-- A test that is true exactly when P holds; and so of tests made of tests.
+pub record Decides (b : Bool) (P : Type 0) : Type 0 where
+  pub sound : b ≡ true → P
+  pub complete : P → b ≡ true
+
+pub agrees : {b : Bool} {P Q : Type 0} → Decides b P → (P → Q) → (Q → P) → Decides b Q
+agrees d f g = record { sound = λ t. f (d .sound t); complete = λ q. d .complete (g q) }
+
+pub always : {P : Type 0} → P → Decides true P
+always p = record { sound = λ t. p; complete = λ q. refl }
+
+pub is-true : (b : Bool) → Decides b (b ≡ true)
+is-true b = record { sound = λ t. t; complete = λ t. t }
+
+pub is-false : (b : Bool) → Decides (not b) (b ≡ false)
+is-false b = record { sound = not-true b; complete = λ e. rw e }
+
+pub _and_ : {a b : Bool} {P Q : Type 0} → Decides a P → Decides b Q → Decides (a && b) (P × Q)
+_and_ {a = true} {b} p q = record { sound = λ t. (p .sound refl, q .sound t); complete = λ w. q .complete (w .1) }
+_and_ {a = false} {b} p q = record { sound = λ t. absurd (true≢false (sym t)); complete = λ w. p .complete (w .0) }
+
+pub _or_ : {a b : Bool} {P Q : Type 0} → Decides a P → Decides b Q → Decides (a || b) (P ⊎ Q)
+_or_ {a} {b} p q = record {
+  sound = λ t. ⊎-elim (λ x. inl (p .sound x)) (λ y. inr (q .sound y)) (or-cases a b t);
+  complete = ⊎-elim (λ x. rw (p .complete x)) (λ y. or-true a (q .complete y));
+}
+
+pub lt-decides : (a b : ℕ) → Decides (ltb a b) (a < b)
+lt-decides a b = record { sound = ltb-true a b; complete = lt-ltb a b }
+
+pub le-decides : (a b : ℕ) → Decides (leb a b) (a ≤ b)
+le-decides a b = record { sound = leb-true a b; complete = le-leb a b }
+
+pub eq-decides : (a b : ℕ) → Decides (eqb a b) (a ≡ b)
+eq-decides a b = record { sound = eqb-true a b; complete = eq-eqb a b }
 
 -- Going down a list.
 pub member-here : (x : ℕ) (l : List ℕ) (j : ℕ) → j < length l → x ≡ getD l j 0 → member x (drop j l) ≡ true
