@@ -15,3 +15,4 @@ pub mod Accounted
 pub mod Ledger
 pub mod Told
 pub mod Balance
+pub mod Theorems
