@@ -1,2 +1,6 @@
 -- What follows from the rules. The modules tell the story in this order.
 pub mod Example
+pub mod Apart
+pub mod Reception
+pub mod Loading
+pub mod Exchange
