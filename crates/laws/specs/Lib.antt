@@ -4,3 +4,4 @@ pub mod Apart
 pub mod Reception
 pub mod Loading
 pub mod Exchange
+pub mod Merge

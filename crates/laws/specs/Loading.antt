@@ -19,9 +19,12 @@ use Rattle.laws.specs.Apart.{Within, Outside, Apart, put-outside, get-af
 use Rattle.laws.specs.Reception.{Reception, receive, Spares, kept}
 
 -- the register that an access reaches
+abbrev offset : Access → ℕ
+offset (read w o) = o
+offset (write w o v) = o
+
 abbrev pub reached : Access → Chip → Register
-reached (read w offset) c = registerAt (c .regs .bank) offset
-reached (write w offset v) c = registerAt (c .regs .bank) offset
+reached a c = registerAt (c .regs .bank) (offset a)
 
 -- "receive bit clear"
 abbrev pub Clear : Chip → Type 0
