@@ -1,11 +1,11 @@
 -- A load and an arriving frame may change places: same chip, same answers. For any chip, well formed or not.
-use mathlib.Core.Path.{_≡_, refl, ap, sym, _∙_}
-use Rattle.rules.specs.Chip.{Pool, Chip}
+use mathlib.Core.Path.{_≡_, ap, sym, _∙_}
+use Rattle.rules.specs.Chip.{Chip}
 use Rattle.rules.specs.Answers.{Step}
 use Rattle.rules.specs.Registers.{Access, access}
 use Rattle.rules.specs.Receive.{Frame, arrive}
 use Rattle.laws.specs.Reception.{Reception, receive, reception, seen, frame-is, frame-reads, frame-writes}
-use Rattle.laws.specs.Loading.{Clear, Load, Loaded, load-reads, load-writes}
+use Rattle.laws.specs.Loading.{Clear, Load, load-reads, load-writes}
 
 pub record Exchanged (a : Access) (f : Frame) (c : Chip) : Type 0 where
   pub chip : access a (arrive f c .chip) .chip ≡ arrive f (access a c .chip) .chip

@@ -4,4 +4,6 @@ pub mod Apart
 pub mod Reception
 pub mod Loading
 pub mod Exchange
+pub mod Loads
 pub mod Merge
+pub mod Needed

@@ -2,21 +2,19 @@
 use mathlib.Core.Path.{_≡_, refl, ap, sym, _∙_}
 use mathlib.Core.Bool.{Bool, true, false, cond, true≢false}
 use mathlib.Core.List.{List, [], _∷_}
-use Prim.Native.Nat.{ℕ, zero, suc, _+_, _*_, _≤_, _<_, _/_, _%_}
-use native.Mathlib.Omega.{arith}
+use Prim.Native.Nat.{ℕ, zero, suc, _+_, _*_}
 use borrow.Author.Tests.{ltb-false}
 use lib.Dec.{ltb}
 use lib.ListN.{length, getD}
-use Rattle.rules.specs.Lists.{member, owned, some?}
-use Rattle.rules.specs.Chip.{Registers, Pool, Chip, pagesAt, allocated}
+use Rattle.rules.specs.Lists.{member, owned}
+use Rattle.rules.specs.Chip.{Chip, pagesAt, allocated}
 use Rattle.rules.specs.Fields.{setBank, setPacket, setPointer, inRegisters, inMemory}
 use Rattle.rules.specs.Answers.{Reply, Step}
-use Rattle.rules.specs.Packet.{getBytes, putBytes}
-use Rattle.rules.specs.Data.{rcv, address, next, against, oddFixed, past, ifPacket, ifOpen, moved, valueOf, readData, writeData}
+use Rattle.rules.specs.Data.{rcv, address, against, oddFixed, past, ifPacket, ifOpen, moved, valueOf, readData, writeData}
 use Rattle.rules.specs.Registers.{Width, Part, low, high, both, Register, BANK, PACKET, POINTER, DATA, registerAt, misplaced, partAt, width, bytesOf, lowOnly, readRegister, writeRegister, Access, read, write, access}
 use Rattle.lists.specs.Facts.{or-true}
 use Rattle.laws.specs.Apart.{Within, Outside, Apart, put-outside, get-after-put, put-either-order}
-use Rattle.laws.specs.Reception.{Reception, receive, Spares, kept}
+use Rattle.laws.specs.Reception.{Reception, receive, Spares, kept, pick-by}
 
 -- the register that an access reaches
 abbrev offset : Access → ℕ
@@ -77,7 +75,9 @@ module _ (x : Reception) (c : Chip) (w : Spares (c .pool) x) where
     -- It is on the same packet, which has the same pages.
     same-packet : (f g : List ℕ → Step) → Also x (f pages) (g pages) → Also x (ifPacket c f) (ifPacket (receive x c) g)
     unfolding ifPacket
-    same-packet f g e = rw (clear, kept (c .pool) x w (c .regs .packet) a, a) e
+    same-packet f g e =
+        by-test (rcv (c .regs .pointer)) (λ t. absurd (true≢false (sym t ∙ clear)))
+        (λ t. rw (kept (c .pool) x w (c .regs .packet) a) (by-test (allocated (c .regs .packet) c) (λ t. e) (λ t. absurd (true≢false (sym a ∙ t)))))
 
     -- Its tests look at the pointer, and at how many pages there are.
     same-tests : (isRead : Bool) (wide : ℕ) {s t : Step} → (Within at wide pages → Also x s t) → Also x (ifOpen isRead wide pages c s) (ifOpen isRead wide pages (receive x c) t)
@@ -136,10 +136,6 @@ module _ (c : Chip) where
   no-byte : {x : Reply} {b k p : ℕ} → Loaded c (record { reply = x; chip = inRegisters (λ r. setBank b (setPacket k (setPointer p r))) c })
   no-byte = record { registers = refl; pool = refl; memory = λ i h. refl }
 
-  one-of : (b : Bool) {s t : Step} → (b ≡ true → Loaded c s) → (b ≡ false → Loaded c t) → Loaded c (cond b s t)
-  one-of true p q = p refl
-  one-of false p q = q refl
-
   low-or-none : (p : Part) (s : Step) → Loaded c s → Loaded c (lowOnly p c s)
   unfolding lowOnly
   low-or-none low s h = h
@@ -149,15 +145,15 @@ module _ (c : Chip) where
   module _ (clear : Clear c) where
     of-packet : (f : List ℕ → Step) → Loaded c (f (pagesAt c (c .regs .packet))) → Loaded c (ifPacket c f)
     unfolding ifPacket
-    of-packet f h = rw clear (one-of (allocated (c .regs .packet) c) (λ e. h) (λ e. no-byte))
+    of-packet f h = pick-by (Loaded c) (rcv (c .regs .pointer)) (λ t. absurd (true≢false (sym t ∙ clear))) (λ t. pick-by (Loaded c) (allocated (c .regs .packet) c) (λ e. h) (λ e. no-byte))
 
     open-or-none : (isRead : Bool) (wide : ℕ) (pages : List ℕ) (s : Step) → (Within (address (c .regs .pointer)) wide pages → Loaded c s) → Loaded c (ifOpen isRead wide pages c s)
     unfolding ifOpen past
     open-or-none isRead wide pages s f =
         let p = c .regs .pointer in
-        one-of (against isRead p) (λ e. no-byte)
-        (λ e. one-of (oddFixed p) (λ e. no-byte)
-        (λ e. one-of (ltb (256 * length pages) (address p + wide)) (λ e. no-byte) (λ e. f (ltb-false (256 * length pages) (address p + wide) e))))
+        pick-by (Loaded c) (against isRead p) (λ e. no-byte)
+        (λ e. pick-by (Loaded c) (oddFixed p) (λ e. no-byte)
+        (λ e. pick-by (Loaded c) (ltb (256 * length pages) (address p + wide)) (λ e. no-byte) (λ e. f (ltb-false (256 * length pages) (address p + wide) e))))
 
     data-read : (wide : ℕ) → Loaded c (readData wide c)
     unfolding readData
@@ -173,14 +169,14 @@ module _ (c : Chip) where
   -- A load writes bank, packet number and pointer, and memory in the pages of the packet in the packet number register: nothing that a frame reads.
   pub load-writes : (start : Chip) (a : Access) → Clear c → Load start c a → Loaded c (access a c)
   unfolding access readRegister writeRegister
-  load-writes start (read wide o) clear l = one-of (misplaced wide o) (λ t. no-byte) (λ t. go l)
+  load-writes start (read wide o) clear l = pick-by (Loaded c) (misplaced wide o) (λ t. no-byte) (λ t. go l)
     where
       go : Load start c (read wide o) → Loaded c (readRegister (registerAt (c .regs .bank) o) (partAt wide o) c)
       go (toBank e) = rw e no-byte
       go (toPacket e) = rw e no-byte
       go (toPointer e) = rw e no-byte
       go (toData e a) = rw e (data-read clear (width (partAt wide o)))
-  load-writes start (write wide o v) clear l = one-of (misplaced wide o) (λ t. no-byte) (λ t. go l)
+  load-writes start (write wide o v) clear l = pick-by (Loaded c) (misplaced wide o) (λ t. no-byte) (λ t. go l)
     where
       go : Load start c (write wide o v) → Loaded c (writeRegister (registerAt (c .regs .bank) o) (partAt wide o) v c)
       go (toBank e) = rw e (low-or-none (partAt wide o) _ no-byte)

@@ -2,11 +2,11 @@
 use mathlib.Core.Path.{_≡_, refl, ap, sym, _∙_}
 use mathlib.Core.Bool.{Bool, true, false, cond, not, _||_, true≢false}
 use mathlib.Core.List.{List, [], _∷_, _++_}
-use Prim.Native.Nat.{ℕ, zero, suc, _+_, _*_, _≤_, _<_, _/_, _%_, min}
+use Prim.Native.Nat.{ℕ, suc, _+_, _*_, _≤_, _/_}
 use native.Mathlib.Omega.{arith}
 use borrow.Author.Tests.{ltb-false}
 use lib.Dec.{ltb}
-use lib.ListN.{length, getD, set, take, length-append, length-take}
+use lib.ListN.{length, getD, take, length-append, length-take}
 use lib.Seq.{getD-set-other}
 use Rattle.rules.specs.Bits.{bit}
 use Rattle.rules.specs.Lists.{member, some?, owned, firstEmpty}
@@ -69,10 +69,11 @@ judged noRoom f r q = nothingStored (value (valueFor noRoom)) (abort r .rcr) tru
 unfoldable pub reception : Frame → Registers → Pool → Reception
 reception f r q = cond (ltb (length (f .bytes)) 18) (nothingStored (refusal 11) (r .rcr) false q) (judged (judge r (length (free (bare r q))) f) f r q)
 
--- An arrival is its reception.
+-- a step that is a reception
 abbrev pub Received : Step → Reception → Chip → Type 0
 Received s x c = s ≡ record { reply = x .reply; chip = receive x c }
 
+-- An arrival is its reception, and writes nothing else.
 pub frame-is : (f : Frame) (c : Chip) → Received (arrive f c) (reception f (c .regs) (c .pool)) c
 unfolding arrive after reception judged putBytes
 frame-is f c = early (ltb (length (f .bytes)) 18) _ (judged (judge (c .regs) (length (free c)) f) f (c .regs) (c .pool)) (late (judge (c .regs) (length (free c)) f))
@@ -138,10 +139,10 @@ image-fits f n = go (bit 0 n)
     go true = simp (length-append, length-take) (omega arith)
     go false = simp (length-append, length-take) (omega arith)
 
--- What both branches of a test have, it has.
-by-test : (P : Arrival → Type 0) (b : Bool) (v w : Arrival) → P v → (b ≡ false → P w) → P (cond b v w)
-by-test P true v w p q = p
-by-test P false v w p q = q refl
+-- What holds of both branches of a test holds of it; each may use the test's answer.
+pub pick-by : {A : Type 0} (P : A → Type 0) (b : Bool) {x y : A} → (b ≡ true → P x) → (b ≡ false → P y) → P (cond b x y)
+pick-by P true p q = p refl
+pick-by P false p q = q refl
 
 module _ (f : Frame) (r : Registers) (q : Pool) where
   abbrev len : ℕ
@@ -172,12 +173,12 @@ module _ (f : Frame) (r : Registers) (q : Pool) where
       P : Arrival → Type 0
       P v = Spares q (judged v f r q)
 
-      early : (b : Bool) → Spares q (cond b (nothingStored (refusal 11) (r .rcr) false q) (judged (judge r (freePages) f) f r q))
+      early : (b : Bool) → Spares q (cond b (nothingStored (refusal 11) (r .rcr) false q) (judged (judge r freePages f) f r q))
       early true = nothing-taken _ _ _
       early false =
-          by-test P (not (bit 8 (r .rcr))) _ _ (nothing-taken _ _ _)
-          (λ e₁. by-test P (not (accepted r (destination f))) _ _ (nothing-taken _ _ _)
-          (λ e₂. by-test P (ltb 1532 len) _ _ (nothing-taken _ _ _)
-          (λ e₃. by-test P (dropped r f) _ _ (nothing-taken _ _ _)
-          (λ e₄. by-test P (ltb (freePages) (needed r len + r .reserved)) _ _ (nothing-taken _ _ _)
-          (λ e₅. some-taken (omega (arith, ltb-false freePages (needed r len + r .reserved) e₅)))))))
+          pick-by P (not (bit 8 (r .rcr))) (λ e. nothing-taken _ _ _)
+          (λ e. pick-by P (not (accepted r (destination f))) (λ e. nothing-taken _ _ _)
+          (λ e. pick-by P (ltb 1532 len) (λ e. nothing-taken _ _ _)
+          (λ e. pick-by P (dropped r f) (λ e. nothing-taken _ _ _)
+          (λ e. pick-by P (ltb freePages (needed r len + r .reserved)) (λ e. nothing-taken _ _ _)
+          (λ e. some-taken (omega (arith, ltb-false freePages (needed r len + r .reserved) e)))))))
