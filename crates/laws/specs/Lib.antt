@@ -15,4 +15,13 @@ pub mod Accounted
 pub mod Ledger
 pub mod Told
 pub mod Balance
+-- Demand 3: loading and reception do not disturb each other.
+pub mod Apart
+pub mod Reception
+pub mod Loading
+pub mod Exchange
+pub mod Loads
+pub mod Merge
+pub mod Needed
+-- The demands at the chip of document 01.
 pub mod Theorems

@@ -1,21 +1,24 @@
--- Demand 2 at the chip of document 01, with its 24 pages: what the modules before it prove for any size.
-use mathlib.Core.Path.{_≡_, refl, ap, sym, _∙_}
+-- Demands 2 and 3 at the chip of document 01, with its 24 pages: what the modules before it prove for any size.
+use mathlib.Core.Path.{_≡_, ap, _∙_}
 use mathlib.Core.Logic.{_⊎_}
-use mathlib.Core.List.{List}
+use mathlib.Core.List.{List, map}
 use Prim.Native.Nat.{ℕ, _+_, _*_, _≤_, _<_, _/_, _%_}
 use native.Mathlib.Omega.{arith}
 use lib.ListN.{length}
 use Rattle.rules.specs.Bits.{bit, highByte, wordOf}
 use Rattle.rules.specs.Chip.{Chip, size, free, powerUp}
 use Rattle.rules.specs.Answers.{gives, leaving}
-use Rattle.rules.specs.WellFormed.{FormedAt, WellFormed}
-use Rattle.rules.specs.Registers.{byte, read, registerAt, misplaced, partAt, taken, readRegister, access}
-use Rattle.rules.specs.Step.{Input, driver, stepOn, step, history}
-use Rattle.laws.specs.Fit.{step-fit}
-use Rattle.laws.specs.Count.{total, free-and-total}
-use Rattle.laws.specs.Keeps.{Fits, keeps, powered-fits}
+use Rattle.rules.specs.WellFormed.{WellFormed}
+use Rattle.rules.specs.Registers.{Access, byte, read, registerAt, misplaced, partAt, taken, readRegister, access}
+use Rattle.rules.specs.Step.{Input, driver, frame, stepOn, step, history}
+use Rattle.laws.specs.Fit.{step-fit, fit-decides}
+use Rattle.laws.specs.Count.{free-and-total}
+use Rattle.laws.specs.Keeps.{keeps, powered-fits}
 use Rattle.laws.specs.Accounted.{IsFree, InOne, accounted}
 use Rattle.laws.specs.Ledger.{Ledger, blank, ledgerFrom}
+use Rattle.rules.specs.Receive.{Frame}
+use Rattle.laws.specs.Loads.{Loads}
+use Rattle.laws.specs.Merge.{Merge, Merged, merging}
 use Rattle.laws.specs.Balance.{run-fits, balances}
 
 -- A chip is well formed at power-up, after each step from a well-formed one, and so throughout every history.
@@ -55,3 +58,8 @@ ledger-balances inputs out later b =
     let w = history-well inputs out in
     let e = mir-read c later (w .0) (w .1) b in
     (ap (λ t. t .reply .number) e, ap (λ t. t .reply .value + ledgerOf inputs out .granted) e ∙ balances 24 (omega arith) inputs out)
+
+-- Loading and reception do not disturb each other: every merge of loads and arriving frames ends in the same chip, with the same answers.
+pub merged-alike : (c : Chip) (out : List ℕ) → WellFormed c → length (c .memory) ≡ 6144 → (loads : List Access) (frames : List Frame) → Loads c c loads
+    → (inputs : List Input) (m : Merge (map driver loads) (map frame frames) inputs) → Merged 24 c out loads frames m
+merged-alike = merging 24 (λ i c out w m. keeps 24 c (w, m) i out) (λ c w m. fit-decides 24 c .complete (m, w))
