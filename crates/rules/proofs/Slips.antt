@@ -15,13 +15,21 @@ use Rattle.rules.specs.Answers.{Step, refuse}
 use Rattle.rules.specs.Mmu.{perform, allocate, removeAndRelease}
 use Rattle.rules.specs.Data.{against, oddFixed, past, ifOpen}
 use Rattle.rules.specs.Crc.{crcBit, crcBits, crcFrom, crc, hash}
-use Rattle.rules.specs.Receive.{Frame, countOf, image}
-use Rattle.rules.specs.Send.{Send, tally, counted, nibble}
+use Rattle.rules.specs.WellFormed.{ascends, allBelow, apart, noneOwned, pagesGood, queueGood, queuesGood, numbersGood, formed, fit}
+use Rattle.rules.specs.Registers.{byte, word, read, write, misplaced, registerAt, partAt, taken, headOf, lowOnly, readRegister, writeRegister, access}
+use Rattle.rules.specs.Receive.{Frame, stored, countOf, needed, image, after}
+use Rattle.rules.specs.Send.{Send, good, autoRelease, tally, counted, nibble, finish}
+use Rattle.rules.specs.Step.{driver, stepOn, stepOf, runOf, history}
 
 -- 80h gives back the pages of the RX head and of no other packet, whatever the packet number register says.
 pub head-alone : (c : Chip) (k : ℕ) (ks : List ℕ) → c .pool .rx ≡ k ∷ ks → (j : ℕ) → (j ≡ k → ⊥) → pagesAt (perform removeAndRelease c .chip) j ≡ pagesAt c j
 unfolding perform
 head-alone c k ks e j d = rw e (getD-set-other (c .pool .pages) k j [] [] d)
+
+-- 80h gives back every page of the RX head.
+pub head-released : (c : Chip) (k : ℕ) (ks : List ℕ) → c .pool .rx ≡ k ∷ ks → k < size c → pagesAt (perform removeAndRelease c .chip) k ≡ []
+unfolding perform
+head-released c k ks e h = rw e (getD-set-same (c .pool .pages) k [] [] h)
 
 -- A number below the lowest unallocated one is allocated.
 pub lowest : (ls : List (List ℕ)) (j : ℕ) → j < firstEmpty ls → some? (getD ls j []) ≡ true
@@ -36,6 +44,20 @@ pub result-has : (c : Chip) (n : ℕ) → n ≤ length (free c) → firstEmpty (
     → pagesAt (perform (allocate n) c .chip) (perform (allocate n) c .chip .regs .result) ≡ take n (free c)
 unfolding perform
 result-has c n h k = rw (le-leb n (length (free c)) h) (getD-set-same (c .pool .pages) (firstEmpty (c .pool .pages)) (take n (free c)) [] k)
+
+-- A stored frame takes free pages, and no page of another packet.
+pub stored-in-free : (f : Frame) (c : Chip) → firstEmpty (c .pool .pages) < size c → pagesAt (after stored f c) (firstEmpty (c .pool .pages)) ≡ take (needed (c .regs) (length (f .bytes))) (free c)
+unfolding after
+stored-in-free f c k = getD-set-same (c .pool .pages) (firstEmpty (c .pool .pages)) (take (needed (c .regs) (length (f .bytes))) (free c)) [] k
+
+-- A sent packet leaves TX, released or not.
+pub sent-leaves-tx : (s : Send) (k : ℕ) (rest : List ℕ) (c : Chip) (out : List ℕ) → finish s k rest c out .chip .pool .tx ≡ rest
+unfolding finish
+sent-leaves-tx s k rest c out = either (autoRelease (good (c .regs .tcr) (s .outcome)) (c .regs)) _ _ refl refl
+  where
+    either : (b : Bool) (x y : Chip) → x .pool .tx ≡ rest → y .pool .tx ≡ rest → cond b x y .pool .tx ≡ rest
+    either true x y p q = p
+    either false x y p q = q
 
 -- A word's lower byte comes first.
 pub word-again : (x : ℕ) → x < 65536 → wordOf (lowByte x) (highByte x) ≡ x
@@ -56,6 +78,12 @@ hash-in-order = refl
 pub failed-single : (s : Send) (ecr : ℕ) → s .collisions ≡ 1 → s .deferral ≡ 0 → tally false s ecr ≡ nibble 0 ecr ∷ nibble 1 ecr ∷ nibble 2 ecr ∷ nibble 3 ecr ∷ []
 unfolding tally counted
 failed-single s ecr a b = rw (a, b)
+
+-- The first answer is no refusal and not 0, and the next is that of the chip after it: the bank is read, then bank 2 is selected and its queue heads are read.
+pub answers-go-on : (out : List ℕ) → history (driver (read word 14) ∷ driver (write byte 14 2) ∷ driver (read word 4) ∷ []) out .replies
+    ≡ record { number = 0; value = 0x3300 } ∷ record { number = 0; value = 0 } ∷ record { number = 0; value = 0x8080 } ∷ []
+unfolding runOf stepOf fit formed pagesGood ascends allBelow noneOwned numbersGood queuesGood queueGood apart stepOn access misplaced bit registerAt partAt readRegister writeRegister taken lowOnly wordOf headOf
+answers-go-on out = refl
 
 -- Refusal 8 comes before 9 and 10.
 pub eight-first : (isRead : Bool) (width : ℕ) (pages : List ℕ) (c : Chip) (s : Step) → against isRead (c .regs .pointer) ≡ true → ifOpen isRead width pages c s ≡ refuse 8 c
