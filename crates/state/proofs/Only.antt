@@ -14,7 +14,7 @@ use Rattle.store.specs.Views.{mapOf, pagesOf, SoundMap, entries, queueOf, Sound
 use Rattle.state.specs.declared.Registers.{Registers}
 use Rattle.state.specs.declared.Stepped.{Stepped}
 use Rattle.state.specs.declared.Answer.{Answer}
-use Rattle.state.specs.declared.Answer.the-variants.{Done, Misplaced, NotModelled, ReadOnly, Reserved, NotAllocated, StillQueued, RxEmpty, AgainstRead, OddPointer, PastPages, OutsideLimits, NothingToSend, BadCount, CompletionFull, ShortOutput, Damaged}
+use Rattle.state.specs.declared.Answer.the-variants.{Done, Misplaced, NotModelled, ReadOnly, Reserved, NotAllocated, StillQueued, RxEmpty, AgainstRead, OddPointer, PastPages, OutsideLimits, NothingToSend, BadCount, CompletionFull, ShortOutput, Damaged, CutShort}
 use Rattle.state.specs.View.{view, replyOf, SoundQueues, Ready}
 use Rattle.state.specs.Promise.{InOrder, Right, Broken, Answers}
 
@@ -82,6 +82,7 @@ answerOf x =
     ∷ CompletionFull
     ∷ ShortOutput
     ∷ Damaged
+    ∷ CutShort
     ∷ []) (x .number) Damaged
 
 answer-back : (a : Answer) → answerOf (replyOf a) ≡ a
@@ -103,6 +104,7 @@ answer-back BadCount = refl
 answer-back CompletionFull = refl
 answer-back ShortOutput = refl
 answer-back Damaged = refl
+answer-back CutShort = refl
 
 pub same-answer : (a b : Answer) → replyOf a ≡ replyOf b → a ≡ b
 same-answer a b e = sym (answer-back a) ∙ ap answerOf e ∙ answer-back b

@@ -13,7 +13,7 @@ use Rattle.state.specs.declared.Registers.{Registers}
 use Rattle.state.specs.declared.Stepped.{Stepped}
 use Rattle.state.specs.declared.Touched.{Touched}
 use Rattle.state.specs.declared.Answer.{Answer}
-use Rattle.state.specs.declared.Answer.the-variants.{Done, Misplaced, NotModelled, ReadOnly, Reserved, NotAllocated, StillQueued, RxEmpty, AgainstRead, OddPointer, PastPages, OutsideLimits, NothingToSend, BadCount, CompletionFull, ShortOutput, Damaged}
+use Rattle.state.specs.declared.Answer.the-variants.{Done, Misplaced, NotModelled, ReadOnly, Reserved, NotAllocated, StillQueued, RxEmpty, AgainstRead, OddPointer, PastPages, OutsideLimits, NothingToSend, BadCount, CompletionFull, ShortOutput, Damaged, CutShort}
 
 abbrev pub registersOf : Registers → rules.Registers
 registersOf r = record {
@@ -63,6 +63,7 @@ replyOf BadCount = refused 13
 replyOf CompletionFull = refused 14
 replyOf ShortOutput = refused 15
 replyOf Damaged = refused 16
+replyOf CutShort = refused 17
 
 -- the queues are as their entries have them made
 pub record SoundQueues (a b c : Queue) : Type 0 where

@@ -45,6 +45,8 @@ pub enum Answer {
     CompletionFull,
     ShortOutput,
     Damaged,
+    // of the bench program alone
+    CutShort,
 }
 
 // What the bench prints of an answer.

@@ -60,10 +60,14 @@ returns-16 c = as-told (c .enum-told15 .given .1)
 returns-17 : tie.Need-returns-17
 returns-17 c = as-told (c .enum-told16 .given .1)
 
+returns-18 : tie.Need-returns-18
+returns-18 c = as-told (c .enum-told17 .given .1)
+
 pub printed-spec : {M : Type 1} → statement M
 printed-spec =
     tie.close
     (tie.spec
+    (λ c. search needs)
     (λ c. search needs)
     (λ c. search needs)
     (λ c. search needs)
@@ -97,4 +101,5 @@ printed-spec =
     returns-14
     returns-15
     returns-16
-    returns-17)
+    returns-17
+    returns-18)
