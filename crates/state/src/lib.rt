@@ -49,81 +49,31 @@ pub enum Answer {
     CutShort,
 }
 
-// What the bench prints of an answer.
-pub struct Shown {
-    pub number: u8,
-    pub value: u16,
-}
+// What the bench prints of an answer: its number and its value.
+pub struct Shown(pub u8, pub u16);
 
 pub fn printed(answer: Answer) -> Shown
-    ensures { λ r. ⌜ (r .number ≡ replyOf answer .number) × (r .value ≡ replyOf answer .value) ⌝ }
+    ensures { λ r. ⌜ (r .0 ≡ replyOf answer .number) × (r .1 ≡ replyOf answer .value) ⌝ }
 {
     match answer {
-        Answer::Done(value) => Shown { number: 0, value },
-        Answer::Misplaced => Shown {
-            number: 1,
-            value: 0,
-        },
-        Answer::NotModelled => Shown {
-            number: 2,
-            value: 0,
-        },
-        Answer::ReadOnly => Shown {
-            number: 3,
-            value: 0,
-        },
-        Answer::Reserved => Shown {
-            number: 4,
-            value: 0,
-        },
-        Answer::NotAllocated => Shown {
-            number: 5,
-            value: 0,
-        },
-        Answer::StillQueued => Shown {
-            number: 6,
-            value: 0,
-        },
-        Answer::RxEmpty => Shown {
-            number: 7,
-            value: 0,
-        },
-        Answer::AgainstRead => Shown {
-            number: 8,
-            value: 0,
-        },
-        Answer::OddPointer => Shown {
-            number: 9,
-            value: 0,
-        },
-        Answer::PastPages => Shown {
-            number: 10,
-            value: 0,
-        },
-        Answer::OutsideLimits => Shown {
-            number: 11,
-            value: 0,
-        },
-        Answer::NothingToSend => Shown {
-            number: 12,
-            value: 0,
-        },
-        Answer::BadCount => Shown {
-            number: 13,
-            value: 0,
-        },
-        Answer::CompletionFull => Shown {
-            number: 14,
-            value: 0,
-        },
-        Answer::ShortOutput => Shown {
-            number: 15,
-            value: 0,
-        },
-        Answer::Damaged => Shown {
-            number: 16,
-            value: 0,
-        },
+        Answer::Done(value) => Shown(0, value),
+        Answer::Misplaced => Shown(1, 0),
+        Answer::NotModelled => Shown(2, 0),
+        Answer::ReadOnly => Shown(3, 0),
+        Answer::Reserved => Shown(4, 0),
+        Answer::NotAllocated => Shown(5, 0),
+        Answer::StillQueued => Shown(6, 0),
+        Answer::RxEmpty => Shown(7, 0),
+        Answer::AgainstRead => Shown(8, 0),
+        Answer::OddPointer => Shown(9, 0),
+        Answer::PastPages => Shown(10, 0),
+        Answer::OutsideLimits => Shown(11, 0),
+        Answer::NothingToSend => Shown(12, 0),
+        Answer::BadCount => Shown(13, 0),
+        Answer::CompletionFull => Shown(14, 0),
+        Answer::ShortOutput => Shown(15, 0),
+        Answer::Damaged => Shown(16, 0),
+        Answer::CutShort => Shown(17, 0),
     }
 }
 
