@@ -1,0 +1,125 @@
+#!/usr/bin/env python3
+"""Drives the bench over a pipe: reset, allocate, load, send, receive, remove and release.
+
+usage: driver.py BENCH        (the path of the bench program)
+"""
+import subprocess
+import sys
+
+
+class Bench:
+    """The chip behind a pipe: a record of 8 bytes goes in, a line comes out."""
+
+    def __init__(self, path):
+        self.program = subprocess.Popen([path], stdin=subprocess.PIPE, stdout=subprocess.PIPE)
+        self.bank = 0
+
+    def record(self, *values):
+        self.program.stdin.write(bytes(values).ljust(8, b"\0"))
+        self.program.stdin.flush()
+        _number, answer, value = self.program.stdout.readline().split()
+        return int(answer), int(value, 16)
+
+    def done(self, *values):
+        """A record that must be answered with 0; gives its value."""
+        answer, value = self.record(*values)
+        if answer != 0:
+            raise SystemExit(f"refusal {answer} of record {bytes(values).hex(' ')}")
+        return value
+
+    def select(self, bank):
+        if bank != self.bank:
+            self.done(3, 0x0E, bank)
+            self.bank = bank
+
+    def read(self, bank, offset):
+        self.select(bank)
+        return self.done(1, offset)
+
+    def read_word(self, bank, offset):
+        self.select(bank)
+        return self.done(2, offset)
+
+    def write(self, bank, offset, value):
+        self.select(bank)
+        self.done(3, offset, value)
+
+    def write_word(self, bank, offset, value):
+        self.select(bank)
+        self.done(4, offset, value & 0xFF, value >> 8)
+
+    def frame(self, wire, bad_crc=False, alignment=False):
+        """A frame with its FCS arrives; gives document 01's value, 0 where it is stored."""
+        for at in range(0, len(wire), 6):
+            part = wire[at : at + 6]
+            self.done(5, len(part), *part)
+        return self.done(6, bad_crc + 2 * alignment)
+
+    def send_finishes(self, outcome=0, collisions=0, deferral=0):
+        """The head of TX is sent; gives how many bytes were put out."""
+        return self.done(7, outcome, collisions, deferral)
+
+    def close(self):
+        self.program.stdin.close()
+        self.program.wait()
+
+
+TCR, RCR, MIR = (0, 0), (0, 4), (0, 8)
+COMMAND, PACKET, RESULT, HEADS, POINTER, DATA, STATUS = (2, 0), (2, 2), (2, 3), (2, 4), (2, 6), (2, 8), (2, 12)
+STATION = bytes([0x02, 0x00, 0x00, 0x12, 0x34, 0x56])
+
+
+def main(path):
+    chip = Bench(path)
+
+    # reset, then the station address, transmitter and receiver on
+    chip.write_word(*RCR, 0x8000)
+    chip.bank = 0  # a soft reset selects bank 0
+    chip.write_word(*RCR, 0x0000)
+    for place, byte in enumerate(STATION):
+        chip.write(1, 4 + place, byte)
+    chip.write_word(*TCR, 0x0081)  # TXENA, PAD_EN
+    chip.write_word(*RCR, 0x0100)  # RXEN
+    print(f"after reset      free pages {chip.read_word(*MIR) >> 8}")
+
+    # allocate one page, load a packet of 20 bytes, enqueue it
+    chip.write(*COMMAND, 0x20)
+    number = chip.read(*RESULT)
+    chip.write(*PACKET, number)
+    chip.write_word(*POINTER, 0x4000)  # AUTO INCR, write
+    data = bytes([0xFF] * 6) + STATION + bytes([0x08, 0x00]) + b"hello!"
+    packet = bytes([0, 0]) + (len(data) + 6).to_bytes(2, "little") + data + bytes([0, 0])
+    for at in range(0, len(packet), 2):
+        chip.write_word(*DATA, packet[at] + 256 * packet[at + 1])
+    chip.write(*COMMAND, 0xC0)
+    print(f"enqueued         packet {number}, free pages {chip.read_word(*MIR) >> 8}")
+
+    # the send finishes: put out padded to 60, and told in the completion queue
+    length = chip.send_finishes()
+    done = chip.read_word(*HEADS) & 0xFF
+    print(f"sent             {length} bytes put out, completion head {done}, status {chip.read(*STATUS):02x}h")
+    chip.write(*COMMAND, 0xA0)
+    chip.write(*STATUS, 0x02)  # acknowledge: the completion head goes
+
+    # a frame arrives for this station
+    wire = STATION + bytes([2, 0, 0, 0, 0, 1, 0x08, 0x00]) + bytes(range(46)) + bytes(4)
+    print(f"frame arrives    value {chip.frame(wire)}, status {chip.read(*STATUS):02x}h")
+    print(f"received         packet {chip.read_word(*HEADS) >> 8}, free pages {chip.read_word(*MIR) >> 8}")
+    chip.write_word(*POINTER, 0xE000)  # RCV, AUTO INCR, READ
+    status, count = chip.read_word(*DATA), chip.read_word(*DATA)
+    words = [chip.read_word(*DATA) for _ in range((count - 4) // 2)]
+    body = b"".join(word.to_bytes(2, "little") for word in words)
+    print(f"read             status {status:04x}h, count {count}, same bytes {body[:-2] == wire}")
+    chip.write(*COMMAND, 0x80)
+    print(f"removed          free pages {chip.read_word(*MIR) >> 8}, RX head {chip.read_word(*HEADS) >> 8:02x}h")
+
+    # what a slip looks like
+    answer, value = chip.record(3, 0x00, 0x80)
+    print(f"remove again     refusal {answer}, value {value:04x}h")
+    chip.close()
+
+
+if __name__ == "__main__":
+    if len(sys.argv) != 2:
+        raise SystemExit(__doc__.strip())
+    main(sys.argv[1])
