@@ -3,6 +3,7 @@
 //! between the two is a slip in one of them.
 
 pub mod address;
+pub mod bench;
 pub mod chip;
 pub mod fifo;
 pub mod frame;
@@ -11,3 +12,6 @@ pub mod mmu;
 pub mod refusal;
 pub mod registers;
 pub mod send;
+
+#[cfg(test)]
+mod tests;
