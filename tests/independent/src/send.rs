@@ -189,7 +189,7 @@ impl Chip {
     }
 
     /// "Data: from 4, c − 5 bytes if bit 5 of the byte at c − 1 is set, else c − 6."
-    fn data_length(&self, packet: PacketNumber) -> Result<usize, Refusal> {
+    pub fn data_length(&self, packet: PacketNumber) -> Result<usize, Refusal> {
         let pages = self.packets.pages(packet);
         let count = self.memory.word(pages, COUNT_AT);
         let usable = LEAST_COUNT..=self.packets.size(packet);

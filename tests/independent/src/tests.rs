@@ -1,9 +1,12 @@
 //! The cases that document 01 itself names.
 
+use std::collections::BTreeSet;
+
 use crate::address::MacAddress;
 use crate::bench::{numbers, push_line, Bench, Record};
 use crate::chip::{Chip, Pointer};
 use crate::frame::{byte_count, pages_needed, Arrival, Flags};
+use crate::generator;
 use crate::memory::PacketNumber;
 use crate::refusal::Refusal;
 use crate::registers::Width::{Byte, Word};
@@ -371,4 +374,30 @@ fn records_outside_the_limits() {
     assert_eq!(answer(&[7, 0, 0, 3]), (11, 0));
     assert_eq!(answer(&[7, 6]), (11, 0));
     assert_eq!(answer(&[7]), (12, 0));
+}
+
+#[test]
+fn streams_are_exact_and_repeat() {
+    let stream = generator::records(7, 3_001);
+    assert_eq!(stream.len(), 3_001);
+    assert_eq!(stream, generator::records(7, 3_001));
+    assert_eq!(stream[..1_000], generator::records(7, 1_000)[..]);
+    assert_ne!(stream, generator::records(8, 3_001));
+}
+
+/// A stream that never meets a rule says nothing about it.
+#[test]
+fn streams_meet_every_answer() {
+    let mut bench = Bench::default();
+    let mut answers = BTreeSet::new();
+    let mut arrivals = BTreeSet::new();
+    for record in generator::records(1, 50_000) {
+        let (answer, value) = numbers(bench.step(&record));
+        answers.insert(answer);
+        if record[0] == 6 && answer == 0 {
+            arrivals.insert(value);
+        }
+    }
+    assert_eq!(answers, (0..=14).chain([17]).collect());
+    assert_eq!(arrivals, (0..=5).collect());
 }
