@@ -5,6 +5,7 @@
 pub mod address;
 pub mod bench;
 pub mod chip;
+pub mod coverage;
 pub mod fifo;
 pub mod frame;
 pub mod generator;
