@@ -168,25 +168,40 @@ impl Generator {
         }
     }
 
+    /// Every offset of a bank and some above, refused widths too.
+    pub fn sweep_bank(&mut self) {
+        let bank = self.random.between(0, 7) as u8;
+        for offset in (0..=17).chain([255]) {
+            self.select(bank);
+            self.access(offset, offset);
+        }
+    }
+
+    /// Any offset for a byte, mostly an even one for a word.
     fn poke_register(&mut self) {
         let offset = match self.random.one_in(15) {
             true => self.random.pick(&[16, 17, 18, 32, 128, 254, 255]),
             false => self.random.between(0, 15) as u8,
         };
-        let even = match self.random.one_in(8) {
+        let for_word = match self.random.one_in(8) {
             true => offset,
             false => offset & !1,
         };
-        let bank = self.chip().registers.bank;
+        self.access(offset, for_word);
+    }
+
+    /// A read or a write of either width, hardly ever a reset.
+    fn access(&mut self, byte_offset: u8, word_offset: u8) {
         let mut value = self.random.word();
-        if bank == 0 && even & !1 == RCR.1 && !self.random.one_in(30) {
-            value &= 0x7f7f; // no reset, by either byte
+        let at_rcr = self.chip().registers.bank == RCR.0 && byte_offset & !1 == RCR.1;
+        if at_rcr && !self.random.one_in(30) {
+            value &= 0x7f7f; // bit 15 clear, by either byte
         }
         match self.random.between(0, 4) {
-            0..=1 => self.read_byte(offset),
-            2 => self.read_word(even),
-            3 => self.write_byte(offset, value as u8),
-            _ => self.write_word(even, value),
+            0..=1 => self.read_byte(byte_offset),
+            2 => self.read_word(word_offset),
+            3 => self.write_byte(byte_offset, value as u8),
+            _ => self.write_word(word_offset, value),
         }
     }
 

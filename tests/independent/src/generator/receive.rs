@@ -9,7 +9,7 @@ use crate::memory::{PacketAddress, PacketNumber};
 impl Generator {
     pub fn short_frame(&mut self) {
         let length = match self.random.between(0, 9) {
-            0 => self.random.pick(&[0, 1, 5, 6, 12, 16, 17]),
+            0 => self.random.pick(&[0, 1, 6, 12, 16, 17, 17, 17]),
             1 => 18,
             2 => self.random.pick(&[19, 21, 22, 23]),
             3..=4 => self.random.pick(&[63, 64, 65, 66, 67, 68]),
@@ -28,28 +28,39 @@ impl Generator {
         self.frame(length);
     }
 
-    /// Either side of 1,518 and of 1,532.
+    /// Either side of 1,518 and of 1,532. They cost many records, so most are
+    /// accepted and find room.
     pub fn long_frame(&mut self) {
         let length = match self.random.between(0, 9) {
-            0..=2 => self.random.between(1_514, 1_522),
-            3..=4 => self.random.between(1_528, 1_536),
-            5..=7 => self.random.pick(&[1_518, 1_519, 1_531, 1_532, 1_533]),
+            0..=1 => self.random.between(1_514, 1_522),
+            2..=3 => self.random.between(1_528, 1_536),
+            4..=7 => self
+                .random
+                .pick(&[1_518, 1_519, 1_520, 1_531, 1_532, 1_532, 1_533]),
             8 => self.random.between(1_272, 1_284),
             _ => self.random.between(800, 2_048),
         };
-        if !self.random.one_in(4) {
-            self.put(RESERVED, 0);
-            self.make_room(8);
+        if self.random.one_in(4) {
+            return self.frame(length);
         }
-        self.frame(length);
+        self.put(RESERVED, 0);
+        self.make_room(8);
+        let station = self.chip().registers.station;
+        let destination = self.random.pick(&[station, MacAddress::BROADCAST]);
+        self.frame_to(destination, length);
     }
 
-    /// A frame of the length, its end, and mostly a look at what was stored.
+    /// A frame of the length to an address of any kind.
     pub fn frame(&mut self, length: usize) {
+        let destination = self.destination();
+        self.frame_to(destination, length);
+    }
+
+    /// A frame, its end, and mostly a look at what was stored.
+    fn frame_to(&mut self, destination: MacAddress, length: usize) {
         if !self.bench.gathered.is_empty() && !self.random.one_in(4) {
             self.say(&[6]); // stray bytes would shift the destination
         }
-        let destination = self.destination();
         self.gather(destination, length);
         self.end_and_look();
     }
@@ -103,8 +114,13 @@ impl Generator {
         self.say(&[5, count]);
     }
 
+    /// Long frames are rare, so more of them are flagged.
     fn end_frame(&mut self) {
-        let flags = match self.random.between(0, 15) {
+        let kinds = match self.bench.gathered.len() {
+            0..=1_500 => 15,
+            _ => 7,
+        };
+        let flags = match self.random.between(0, kinds) {
             0 => 1,
             1 => 2,
             2 => 3,

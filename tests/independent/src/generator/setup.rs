@@ -82,7 +82,14 @@ impl Generator {
         } else {
             value |= tcr::TXENA;
         }
-        self.put(TCR, value);
+        if self.random.one_in(4) {
+            // TXENA as it is: "a write to either byte"
+            self.select(TCR.0);
+            self.write_byte(TCR.1 + 1, (value >> 8) as u8);
+        } else {
+            self.put(TCR, value);
+        }
+        self.get(EPHSR);
     }
 
     /// Sets TXENA again and leaves the rest, as after a failed send.
@@ -169,25 +176,29 @@ impl Generator {
         } else {
             self.write_byte(RCR.1 + 1, (value >> 8) as u8);
         }
-        if self.random.one_in(3) {
-            // bit 15 is still set, so this resets again
+        if self.random.one_in(2) {
+            // bit 15 is still set, so a low byte resets what came since
+            self.set_control();
+            self.allocate();
+            self.select(RCR.0);
             let low = self.random.byte();
             self.write_byte(RCR.1, low);
         }
-        for place in [
-            RCR,
-            TCR,
-            EPHSR,
-            MIR,
-            PACKET,
-            HEADS,
-            POINTER,
-            INTERRUPT,
-            Place(1, 4),
-        ] {
-            self.get(place);
-        }
+        self.look_at_reset();
         self.configure_all();
+    }
+
+    /// Every register whose reset value shows, and "the station address".
+    fn look_at_reset(&mut self) {
+        let bank_0 = [0x0, 0x2, 0x4, 0x6, 0x8, 0xa].map(|offset| (0, offset));
+        let bank_1 = [0x4, 0x6, 0x8, 0xc].map(|offset| (1, offset));
+        let bank_2 = [0x2, 0x4, 0x6, 0xc].map(|offset| (2, offset));
+        let bank_3 = [0x0, 0x2, 0x4, 0x6].map(|offset| (3, offset));
+        self.read_word(0xe);
+        for (bank, offset) in [&bank_0[..], &bank_1, &bank_2, &bank_3].concat() {
+            self.select(bank);
+            self.read_word(offset);
+        }
     }
 
     pub fn free_all(&mut self) {

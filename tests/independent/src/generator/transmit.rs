@@ -99,7 +99,7 @@ impl Generator {
             9..=11 => 2 * self.random.between(6, size / 2),
             12..=13 => size - self.random.pick(&[0, 2, 4]),
             14 => self.random.pick(&[12, 14, 64, 66, 68, 256, 258]),
-            15 => self.random.pick(&[0, 2, 4, 8, 10, 11, 13]),
+            15 => self.random.pick(&[0, 4, 8, 10, 10, 10, 11, 13]),
             16 => self.random.between(6, size / 2) * 2 + 1,
             17 => size + self.random.pick(&[1, 2, 256, 0x8000]),
             18 => self.random.pick(&[0xffff, 0xfffe, 2_048, 2_050]),
@@ -132,7 +132,7 @@ impl Generator {
         if self.chip().registers.tcr & tcr::TXENA == 0 && !self.random.one_in(4) {
             self.enable_tx();
         }
-        if !self.random.one_in(4) {
+        if !self.random.one_in(3) {
             self.repair_head();
         }
         let outcome = match self.random.between(0, 99) {
@@ -250,8 +250,12 @@ impl Generator {
             self.command(ENQUEUE);
             self.send();
         }
-        // More than enough: each of these meets a full FIFO.
+        // More than enough: each of these meets a full FIFO, some of them with
+        // a count that is refused first.
         self.command(ENQUEUE);
+        if self.random.one_in(2) {
+            self.load_words(2, &[13]);
+        }
         for _ in 0..self.random.between(2, 5) {
             self.send();
         }
