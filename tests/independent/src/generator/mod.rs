@@ -1,0 +1,128 @@
+//! Deep streams of records, steered by a bench of the generator's own so that
+//! packets fill, queues back up and counters stop before anything is reset.
+
+mod driver;
+mod probe;
+mod receive;
+mod setup;
+mod transmit;
+
+use crate::bench::{Bench, Record};
+use crate::chip::Chip;
+use crate::random::Random;
+
+/// Exactly `count` records, the same for the same seed.
+pub fn records(seed: u64, count: usize) -> Vec<Record> {
+    let mut generator = Generator::new(seed, count);
+    generator.configure_all();
+    while generator.records.len() < count {
+        generator.play_scene();
+    }
+    generator.records
+}
+
+/// A scene and its share; costs differ, so shares are not shares of records.
+type Scene = (usize, fn(&mut Generator));
+
+const SCENES: &[Scene] = &[
+    (40, Generator::transmit),
+    (14, Generator::send_again),
+    (30, Generator::short_frame),
+    (4, Generator::middling_frame),
+    (3, Generator::long_frame),
+    (22, Generator::drain),
+    (16, Generator::configure_some),
+    (34, Generator::walk_pointer),
+    (8, Generator::cross_border),
+    (4, Generator::wrap_pointer),
+    (14, Generator::shuffle_packets),
+    (14, Generator::tidy),
+    (14, Generator::poke_registers),
+    (12, Generator::sweep_bank),
+    (10, Generator::trouble_queues),
+    (12, Generator::odd_command),
+    (12, Generator::odd_record),
+    (8, Generator::raw_records),
+    (12, Generator::acknowledge),
+    (3, Generator::fill_completion),
+    (3, Generator::stop_counters),
+    (1, Generator::fill_rx),
+    (1, Generator::read_whole_page),
+];
+
+/// Scenes so costly or so shallow that they come once in many others.
+const RARE_SCENES: &[Scene] = &[
+    (12, Generator::soft_reset),
+    (16, Generator::free_all),
+    (16, Generator::empty_tx),
+    (8, Generator::gather_too_much),
+    (1, Generator::read_whole_memory),
+];
+const RARE: usize = 40;
+
+pub struct Generator {
+    random: Random,
+    bench: Bench,
+    records: Vec<Record>,
+    wanted: usize,
+}
+
+impl Generator {
+    fn new(seed: u64, wanted: usize) -> Self {
+        Self {
+            random: Random::new(seed),
+            bench: Bench::default(),
+            records: Vec::with_capacity(wanted),
+            wanted,
+        }
+    }
+
+    fn play_scene(&mut self) {
+        let scenes = if self.random.one_in(RARE) {
+            RARE_SCENES
+        } else {
+            SCENES
+        };
+        let scene = self.choose(scenes);
+        scene(self);
+        if self.random.one_in(2) {
+            self.look_around();
+        }
+    }
+
+    fn choose(&mut self, scenes: &[Scene]) -> fn(&mut Self) {
+        let total: usize = scenes.iter().map(|(share, _)| share).sum();
+        let mut left = self.random.between(1, total);
+        for &(share, scene) in scenes {
+            if left <= share {
+                return scene;
+            }
+            left -= share;
+        }
+        unreachable!("the shares sum to the total")
+    }
+
+    fn chip(&self) -> &Chip {
+        &self.bench.chip
+    }
+
+    /// Plays a record on the own bench and keeps it while more are wanted.
+    fn emit(&mut self, record: Record) {
+        if self.records.len() < self.wanted {
+            self.records.push(record);
+        }
+        // What came of it shows in the chip.
+        let _ = self.bench.step(&record);
+    }
+
+    /// Emits a record from its leading bytes. "Unused bytes are ignored", so
+    /// some hold noise.
+    fn say(&mut self, bytes: &[u8]) {
+        let mut record = Record::default();
+        if self.random.one_in(4) {
+            record.fill_with(|| self.random.byte());
+        }
+        record[..bytes.len()].copy_from_slice(bytes);
+        self.emit(record);
+    }
+}

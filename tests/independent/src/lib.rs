@@ -1,0 +1,20 @@
+//! A second model of the LAN91C96, written from document 01 and its decided
+//! points alone. It shares no line with the proved model, so a difference
+//! between the two is a slip in one of them.
+
+pub mod address;
+pub mod bench;
+pub mod chip;
+pub mod coverage;
+pub mod fifo;
+pub mod frame;
+pub mod generator;
+pub mod memory;
+pub mod mmu;
+pub mod random;
+pub mod refusal;
+pub mod registers;
+pub mod send;
+
+#[cfg(test)]
+mod tests;
