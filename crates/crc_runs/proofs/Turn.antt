@@ -1,5 +1,5 @@
 -- Turning a number of 32 bits round, a bit a turn: what is turned already, with the mirror of what is left, is the mirror of all.
-use mathlib.Core.Path.{_≡_, sym, _∙_}
+use mathlib.Core.Path.{_≡_, sym}
 use Prim.Native.Nat.{ℕ, suc, _+_, _-_, _*_, _/_, _%_, _^_, _<_}
 use native.Mathlib.Nat.{pow-suc, mul-comm, mul-assoc, add-mul}
 use native.Mathlib.Numerals.{add-one}

@@ -1,5 +1,5 @@
 -- The formula is held against the rules at each of the 256 bytes.
-use mathlib.Core.Path.{_≡_, refl}
+use mathlib.Core.Path.{refl}
 use Prim.Native.Nat.{ℕ, _*_, _/_, _%_, _^_}
 use lib.Bits.{bitXor}
 use Rattle.rules.specs.Crc.{crcBit, crcBits}

@@ -1,5 +1,5 @@
 -- The formula is held against the definition at each of the 256 bytes.
-use mathlib.Core.Path.{_≡_, refl}
+use mathlib.Core.Path.{refl}
 use Prim.Native.Nat.{ℕ, _*_, _/_, _%_, _^_}
 use borrow.Author.Needs.{needs}
 use lib.Bits.{bitXor}
