@@ -1,0 +1,2 @@
+-- What the data accesses' parts promise.
+pub mod Access
