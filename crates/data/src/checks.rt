@@ -48,7 +48,7 @@ fn is_odd_fixed(pointer: u16) -> bool
 pub fn checked(row: [Page; 8], reading: bool, wide: bool, pointer: u16) -> Gate
     ensures { λ g. ⌜ Guards reading (widthOf wide) pointer row g ⌝ }
 {
-    let pages = store::count(row);
+    let pages = store::pages_in(row);
     if pages == 0 {
         if bits::is_set(pointer, 15) {
             return Gate::Refused(Answer::RxEmpty);

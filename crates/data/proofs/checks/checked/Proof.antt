@@ -13,10 +13,10 @@ use Rattle.data.proofs.checks.checked.Statement.{statement}
 use Rattle.data.proofs.checks.checked.Tie as tie
 
 empty : (t : tie.Then1) → length (used (t .before .before .args .row)) ≡ 0
-empty t = sym (t .before .count .ensures) ∙ t .if1 .taken
+empty t = sym (t .before .pages-in .ensures) ∙ t .if1 .taken
 
 filled : (e : tie.Else1) → 0 < length (used (e .before .before .args .row))
-filled e = omega (arith, e .before .count .ensures, e .if1 .left)
+filled e = omega (arith, e .before .pages-in .ensures, e .if1 .left)
 
 returns : tie.Need-returns
 returns c =
@@ -46,7 +46,7 @@ returns-4 c =
 mul-if5 : tie.Need-mul-if5
 mul-if5 c =
     let k = c .before .before .before .before .before in
-    record { fits = omega (arith, k .count .ensures, used-length (k .before .args .row), k .before .good .0 .1 .0 .1) }
+    record { fits = omega (arith, k .pages-in .ensures, used-length (k .before .args .row), k .before .good .0 .1 .0 .1) }
 
 returns-5 : tie.Need-returns-5
 returns-5 c =
@@ -54,7 +54,7 @@ returns-5 c =
     let f = left (w .before) in
     let k = w .before .before .before .before .before in
     let a = k .before .before .args in
-    let h : 256 * length (used (a .row)) < a .pointer % 2048 + widthOf (a .wide) = omega (arith, c .if5 .taken, w .width-of .ensures, k .before .count .ensures) in
+    let h : 256 * length (used (a .row)) < a .pointer % 2048 + widthOf (a .wide) = omega (arith, c .if5 .taken, w .width-of .ensures, k .before .pages-in .ensures) in
     refused (λ x s e. some _ _ _ _ x s e (filled k) false false true (f .0) (f .1) (is-past _ _ _ h))
 
 returns-6 : tie.Need-returns-6
@@ -64,7 +64,7 @@ returns-6 c =
     let f = left (w .before) in
     let k = w .before .before .before .before .before in
     let a = k .before .before .args in
-    let h : a .pointer % 2048 + widthOf (a .wide) ≤ 256 * length (used (a .row)) = omega (arith, c .if5 .left, w .width-of .ensures, k .before .count .ensures) in
+    let h : a .pointer % 2048 + widthOf (a .wide) ≤ 256 * length (used (a .row)) = omega (arith, c .if5 .left, w .width-of .ensures, k .before .pages-in .ensures) in
     record { step = λ x s e. some _ _ _ _ x s e (filled k) false false false (f .0) (f .1) (is-within _ _ _ h); room = λ e. h }
 
 pub checked-spec : {M : Type 1} → statement M
