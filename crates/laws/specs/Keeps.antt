@@ -7,7 +7,7 @@ use Prim.Native.Nat.{ℕ, zero, suc, _+_, _*_, _≤_, _<_, _/_, _%_}
 use native.Mathlib.Omega.{arith}
 use borrow.Author.Tests.{leb-true, leb-false, ltb-false}
 use lib.Dec.{eqb, leb, ltb}
-use lib.ListN.{length, getD, set, take, length-set, length-replicate}
+use lib.ListN.{length, getD, set, take, length-replicate}
 use lib.Seq.{getD-set-same}
 use Rattle.rules.specs.Bits.{bit, lowByte}
 use Rattle.rules.specs.Lists.{member, some?, firstEmpty}
@@ -15,7 +15,7 @@ use Rattle.rules.specs.Chip.{Registers, Chip, size, free, pagesAt, powered}
 use Rattle.rules.specs.Fields.{setRx, setDone, inRegisters, inPool, inMemory}
 use Rattle.rules.specs.Answers.{Step, Turn, refuse}
 use Rattle.rules.specs.WellFormed.{Distinct, Formed, FormedAt, fit}
-use Rattle.rules.specs.Packet.{place, putBytes}
+use Rattle.rules.specs.Packet.{putBytes}
 use Rattle.rules.specs.Mmu.{Command, nothing, allocate, reset, removeRx, removeAndRelease, release, enqueue, resetTx, unknown, decode, perform, give}
 use Rattle.rules.specs.Interrupts.{acknowledge}
 use Rattle.rules.specs.Data.{readData, writeData}
@@ -23,6 +23,7 @@ use Rattle.rules.specs.Registers.{Part, low, high, both, Register, TCR, EPHSR, 
 use Rattle.rules.specs.Receive.{Frame, Arrival, stored, disabled, notAccepted, tooLong, bad, noRoom, valueFor, dataLength, countOf, pagesFor, needed, accepted, destination, dropped, judge, after, verdict, arrive}
 use Rattle.rules.specs.Send.{Send, within, usable, byteCount, good, autoRelease, finish, ifSendable, byTxHead, sendDone}
 use Rattle.rules.specs.Step.{Input, driver, frame, sent, stepOn, stepOf}
+use Rattle.lists.specs.Bytes.{length-put}
 use Rattle.lists.specs.Facts.{if-not, member-first}
 use Rattle.laws.specs.Cases.{pick, pick-by, by-head, by-idle, by-packet, by-tests, by-part}
 use Rattle.laws.specs.Pool.{has-small, given-back, number-free, number-not-rx, number-not-tx, given, rx-popped, rx-joined, tx-popped, tx-joined, done-joined, done-popped, tx-and-done-emptied, beside, emptied}
@@ -30,12 +31,6 @@ use Rattle.laws.specs.Pool.{has-small, given-back, number-free, number-n
 -- what refusal 16 asks of a chip with n pages
 abbrev pub Fits : ℕ → Chip → Type 0
 Fits n c = FormedAt n c × (length (c .memory) ≡ 256 * n)
-
--- Writing bytes keeps the memory's length.
-pub length-put : (bytes : List ℕ) (a : ℕ) (pages memory : List ℕ) → length (putBytes bytes a pages memory) ≡ length memory
-unfolding putBytes
-length-put [] a pages memory = refl
-length-put (b ∷ bs) a pages memory = length-put bs (suc a) pages (set memory (place pages a) b) ∙ length-set memory (place pages a) b
 
 -- Pages that are taken from enough are some.
 some-taken : (m : ℕ) → 1 ≤ m → (l : List ℕ) → m ≤ length l → some? (take m l) ≡ true

@@ -44,11 +44,19 @@ pub record Decides (b : Bool) (P : Type 0) : Type 0 where
 pub agrees : {b : Bool} {P Q : Type 0} → Decides b P → (P → Q) → (Q → P) → Decides b Q
 agrees d f g = record { sound = λ t. f (d .sound t); complete = λ q. d .complete (g q) }
 
+-- a test that fails shows that what would have made it true does not hold
+pub refutes : {b : Bool} {P Q : Type 0} → Decides b P → (Q → P) → b ≡ false → Decides false Q
+refutes d f e = record { sound = λ t. absurd (true≢false (sym t)); complete = λ q. absurd (true≢false (sym (d .complete (f q)) ∙ e)) }
+
 pub always : {P : Type 0} → P → Decides true P
 always p = record { sound = λ t. p; complete = λ q. refl }
 
 pub is-true : (b : Bool) → Decides b (b ≡ true)
 is-true b = record { sound = λ t. t; complete = λ t. t }
+
+-- a test that answers as another
+pub as-true : {b t : Bool} → b ≡ t → Decides b (t ≡ true)
+as-true e = record { sound = λ x. sym e ∙ x; complete = λ x. e ∙ x }
 
 pub is-false : (b : Bool) → Decides (not b) (b ≡ false)
 is-false b = record { sound = not-true b; complete = λ e. rw e }
