@@ -30,7 +30,7 @@ fn unused_from(row: [Page; 8], from: usize) -> bool
 fn row_sound(row: [Page; 8]) -> bool
     ensures { λ b. ⌜ Decides b (row ≡ rowOf (used row)) ⌝ }
 {
-    let n = store::count(row);
+    let n = store::pages_in(row);
     unused_from(row, n)
 }
 

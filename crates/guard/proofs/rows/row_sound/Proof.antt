@@ -13,13 +13,13 @@ unused-from-requires : tie.Need-unused-from-requires
 unused-from-requires c κs =
     let s = c .before in
     let len : length (s .args .row) ≡ 8 = s .good .0 .1 .0 .1 in
-    omega (arith, len, used-length (s .args .row), c .count .ensures)
+    omega (arith, len, used-length (s .args .row), c .pages-in .ensures)
 
 returns : tie.Need-returns
 returns c =
     let row = c .before .before .args .row in
     let e = c .unused-from .ensures in
-    rw (e .0 ∙ ap (λ (n : ℕ). blank value 255 (drop n row)) (c .before .count .ensures)) (row-decides row (e .1))
+    rw (e .0 ∙ ap (λ (n : ℕ). blank value 255 (drop n row)) (c .before .pages-in .ensures)) (row-decides row (e .1))
 
 pub row-sound-spec : {M : Type 1} → statement M
 row-sound-spec = tie.close (tie.spec (λ c κs. search needs) unused-from-requires returns)

@@ -1,0 +1,50 @@
+-- From what a step makes to what an entry promises: the turn of the rules, on a record that is in order again.
+use mathlib.Core.Path.{_≡_, refl, ap, sym, subst, _∙_}
+use mathlib.Core.List.{List, []}
+use Prim.Native.Nat.{ℕ}
+use lib.ListN.{length}
+use Rattle.rules.specs.Chip.{Chip}
+use Rattle.rules.specs.Answers.{Step, Turn, leaving}
+use Rattle.rules.specs.WellFormed.{FormedAt}
+use Rattle.rules.specs.Registers.{Access, access}
+use Rattle.rules.specs.Receive.{Frame, arrive}
+use Rattle.rules.specs.Step.{Input, driver, frame, stepOn, step}
+use Rattle.laws.specs.Fit.{step-fit}
+use Rattle.laws.specs.Keeps.{keeps}
+use Rattle.store.specs.declared.Page.{Page}
+use Rattle.store.specs.Views.{SoundMap}
+use Rattle.state.specs.declared.Registers.{Registers}
+use Rattle.state.specs.declared.Stepped.{Stepped}
+use Rattle.state.specs.View.{view, replyOf, SoundQueues, Makes}
+use Rattle.state.specs.Promise.{InOrder, Right}
+
+-- the step of a turn
+abbrev pub stepIn : Turn → Step
+stepIn t = record { reply = t .reply; chip = t .chip }
+
+module _ (r : Registers) (m : List (List Page)) (mem : List ℕ) (o : InOrder r m mem) where
+  -- What makes the step of a turn, and leaves its output, is right.
+  pub right : (i : Input) (out : List ℕ) (x : Stepped) (mem′ out′ : List ℕ) → Makes (stepIn (stepOn i (view r m mem) out)) mem′ x → out′ ≡ stepOn i (view r m mem) out .output
+      → Right (step i (view r m mem) out) x mem′ out′
+  right i out x mem′ out′ p e =
+      let c = view r m mem in
+      let s : step i c out ≡ stepOn i c out = step-fit 24 i c out (o .full) (o .ready .well) in
+      let k = subst (λ (t : Turn). FormedAt 24 (t .chip) × (length (t .chip .memory) ≡ 6144)) s (keeps 24 c (o .ready .well, o .full) i out) in
+      record {
+        chip = p .chip ∙ sym (ap (λ (t : Turn). t .chip) s);
+        reply = p .reply ∙ sym (ap (λ (t : Turn). t .reply) s);
+        output = e ∙ sym (ap (λ (t : Turn). t .output) s);
+        ready = record {
+          ready = record { queues = p .queues; map = p .map; well = subst (λ (d : Chip). FormedAt 24 d) (sym (p .chip)) (k .0) };
+          full = ap (λ (d : Chip). length (d .memory)) (p .chip) ∙ k .1;
+        };
+      }
+
+  -- Accesses and frames leave the output buffer, which they are not lent.
+  pub right-access : (a : Access) (x : Stepped) (mem′ : List ℕ) → Makes (access a (view r m mem)) mem′ x → Right (step (driver a) (view r m mem) []) x mem′ []
+  unfolding stepOn
+  right-access a x mem′ p = right (driver a) [] x mem′ [] p refl
+
+  pub right-frame : (f : Frame) (x : Stepped) (mem′ : List ℕ) → Makes (arrive f (view r m mem)) mem′ x → Right (step (frame f) (view r m mem) []) x mem′ []
+  unfolding stepOn
+  right-frame f x mem′ p = right (frame f) [] x mem′ [] p refl

@@ -1,0 +1,1 @@
+-- What the entries' parameters stand for in `rules`.
