@@ -2,6 +2,8 @@
 mod decode; // decode.rt: width, offset and bank to a register and its bytes
 mod words; // words.rt: the part of a word that an access reads or writes
 mod interrupts; // interrupts.rt: interrupt status, acknowledge, the line
+mod reads; // reads.rt: reads
+mod writes; // writes.rt: writes
 
 pub use decode::misplaced;
 pub use decode::part_at;
@@ -9,8 +11,9 @@ pub use decode::register_at;
 pub use interrupts::acknowledged;
 pub use interrupts::line_up;
 pub use interrupts::status;
-pub use words::merged;
-pub use words::taken;
+pub use reads::read_plain;
+pub use reads::read_rcr;
+pub use writes::write_plain;
 
 pub enum Width {
     Byte,
