@@ -1,16 +1,20 @@
 -- Laws of the rules' bits, over any number and any bit. (With a numeral for k, `omega` reads `bit k x` by itself once it is unfolded, but for bit 0: `bit-zero`.)
-use mathlib.Core.Path.{_≡_, ap, sym, _∙_, subst}
-use mathlib.Core.Bool.{true, false}
-use Prim.Native.Nat.{ℕ, suc, _+_, _-_, _*_, _/_, _%_, _^_, _≤_, _<_}
+use mathlib.Core.Path.{_≡_, refl, ap, sym, _∙_, subst}
+use mathlib.Core.Bool.{Bool, true, false, _&&_, _||_}
+use Prim.Native.Nat.{ℕ, zero, suc, _+_, _-_, _*_, _/_, _%_, _^_, _≤_, _<_}
 use native.Mathlib.Nat.{div-one, mod-lt, pow-suc, mul-comm, mul-assoc, add-mul}
-use native.Mathlib.Numerals.{one-add}
+use native.Mathlib.Numerals.{one-add, add-one}
 use native.Mathlib.Omega.{arith}
-use native.Mathlib.Decide.{decLe}
+use native.Mathlib.Decide.{decLe, ℕ-discrete}
 use borrow.Author.Tests.{eq-eqb}
 use lib.Arith.{digits-lt}
 use lib.Dec.{eqb}
 use lib.Pow.{pow-pos, pow-add, split, high, low, shr-shr, shr-lt, mod-pow-add, mod-mod-pow, field}
-use Rattle.rules.specs.Bits.{bit, setBit, clearBit}
+use Rattle.rules.specs.Bits.{bit, setBit, clearBit, share}
+
+or-true : (b : Bool) → b || true ≡ true
+or-true true = refl
+or-true false = refl
 
 -- Bit 0 is whether the number is odd.
 pub bit-zero : (x : ℕ) → bit 0 x ≡ eqb (x % 2) 1
@@ -105,3 +109,18 @@ module _ (k x : ℕ) where
   -- the bit's weight, where it is set
   pub weight-le : x / 2 ^ k % 2 * 2 ^ k ≤ x
   weight-le = omega (arith, split x (suc k), low-bits k x)
+
+-- Numbers that have bit k in common share a bit, and no further bit shared is none shared.
+module _ (x y : ℕ) where
+  pub share-here : (n k : ℕ) → k < n → bit k x && bit k y ≡ true → share n x y ≡ true
+  unfolding share
+  share-here zero k h e = absurd (omega arith)
+  share-here (suc n) k h e = go (share-here n k) (ℕ-discrete k n)
+    where
+      go : (k < n → bit k x && bit k y ≡ true → share n x y ≡ true) → Dec (k ≡ n) → share (suc n) x y ≡ true
+      go f (yes d) = rw (← d, e) (or-true (share k x y))
+      go f (no d) = let l : k < n = omega arith in rw (f l e)
+
+  pub share-on : (k : ℕ) → share k x y ≡ false → bit k x && bit k y ≡ false → share (k + 1) x y ≡ false
+  unfolding share
+  share-on k a b = rw (add-one k, a, b)

@@ -2,8 +2,9 @@
 // Callers give a constant k, and the compiler inlines these across crates: then a bit is one `test` (or a shift and an `and`),
 // a bit set or cleared one `or` or `and` with a constant, a byte one shift, a word one shift and one `or`. So no masks are written here.
 ghost use mathlib.Core.Path.{_≡_};
+ghost use mathlib.Core.Bool.{_&&_, _||_};
 ghost use Prim.Native.Nat.{_<_};
-ghost use Rattle.rules.specs.Bits.{bit, setBit, clearBit, flag, lowByte, highByte, wordOf};
+ghost use Rattle.rules.specs.Bits.{bit, setBit, clearBit, flag, share, lowByte, highByte, wordOf};
 
 // Is bit k of a register set?
 pub fn is_set(x: u16, k: u16) -> bool
@@ -68,4 +69,37 @@ pub fn word(low: u8, high: u8) -> u16
     ensures { λ r. ⌜ r ≡ wordOf low high ⌝ }
 {
     low as u16 + high as u16 * 256
+}
+
+// Two tests, both or either: without a branch where they are compiled.
+pub fn both(a: bool, b: bool) -> bool
+    ensures { λ r. ⌜ r ≡ a && b ⌝ }
+{
+    if a {
+        return b;
+    }
+    false
+}
+
+pub fn either(a: bool, b: bool) -> bool
+    ensures { λ r. ⌜ r ≡ a || b ⌝ }
+{
+    if a {
+        return true;
+    }
+    b
+}
+
+// Have two bytes a bit in common?
+pub fn shares(x: u8, y: u8) -> bool
+    ensures { λ r. ⌜ r ≡ share 8 x y ⌝ }
+{
+    let mut k = 0;
+    while k < 8 {
+        if both(byte_is_set(x, k), byte_is_set(y, k)) {
+            return true;
+        }
+        k += 1;
+    }
+    false
 }

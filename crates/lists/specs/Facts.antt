@@ -112,6 +112,16 @@ count-owned n ls h = ap length (free-owned n ls h)
 pub count-more : (n : ℕ) (ls : List (List ℕ)) → owned n ls ≡ false → length (freeBelow (n + 1) ls) ≡ length (freeBelow n ls) + 1
 count-more n ls h = ap length (free-more n ls h) ∙ length-append (freeBelow n ls) (n ∷ [])
 
+-- There are at most n free pages below n.
+pub free-few : (n : ℕ) (ls : List (List ℕ)) → length (freeBelow n ls) ≤ n
+unfolding freeBelow unless
+free-few zero ls = omega arith
+free-few (suc n) ls = simp length-append (go (owned n ls) (free-few n ls))
+  where
+    go : (b : Bool) → length (freeBelow n ls) ≤ n → length (freeBelow n ls) + length (unless b n) ≤ suc n
+    go true h = omega arith
+    go false h = omega arith
+
 -- The free pages below p are the first of those below n.
 pub free-split : (n p : ℕ) (ls : List (List ℕ)) → p ≤ n → (rest : List ℕ) × (freeBelow n ls ≡ freeBelow p ls ++ rest)
 unfolding freeBelow

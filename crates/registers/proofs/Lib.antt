@@ -1,0 +1,4 @@
+-- Proofs that belong to no one function.
+pub mod Queues
+pub mod Returned
+pub mod Tcr
