@@ -53,7 +53,7 @@ swap true true c d = refl
 swap true false c d = sym (and-false c)
 swap false b c d = refl
 
-pub climbs-above : (n x : ℕ) (l : List ℕ) → climbs n (x + 1) l ≡ above x l && allBelow n l
+climbs-above : (n x : ℕ) (l : List ℕ) → climbs n (x + 1) l ≡ above x l && allBelow n l
 unfolding climbs above allBelow
 climbs-above n x [] = refl
 climbs-above n x (y ∷ ys) = rw (add-one x, climbs-above n y ys) (swap (ltb x y) (ltb y n) (above y ys) (allBelow n ys))
