@@ -15,7 +15,9 @@ use Rattle.store.specs.declared.Page.{Page}
 use Rattle.store.specs.Views.{SoundMap}
 use Rattle.state.specs.declared.Registers.{Registers}
 use Rattle.state.specs.declared.Stepped.{Stepped}
-use Rattle.state.specs.View.{view, replyOf, SoundQueues, Makes}
+use Rattle.state.specs.declared.Touched.{Touched}
+use Rattle.state.specs.declared.Answer.{Answer}
+use Rattle.state.specs.View.{view, replyOf, Ready, Makes, Touches}
 use Rattle.state.specs.Promise.{InOrder, Right}
 
 -- the step of a turn
@@ -48,3 +50,13 @@ module _ (r : Registers) (m : List (List Page)) (mem : List ℕ) (o : InOrder r 
   pub right-frame : (f : Frame) (x : Stepped) (mem′ : List ℕ) → Makes (arrive f (view r m mem)) mem′ x → Right (step (frame f) (view r m mem) []) x mem′ []
   unfolding stepOn
   right-frame f x mem′ p = right (frame f) [] x mem′ [] p refl
+
+-- A step that left the page map, beside that map.
+pub touched : (s : Step) (m : List (List Page)) (mem : List ℕ) (t : Touched) (x : Stepped) → SoundMap m → Touches s m mem t
+    → x ≡ record { answer = t .answer; registers = t .registers; pages = m } → Makes s mem x
+touched s m mem t x h p e = rw e (record { chip = p .chip; reply = p .reply; queues = p .queues; map = h })
+
+-- A step that leaves the chip.
+pub unchanged : (a : Answer) (r : Registers) (m : List (List Page)) (mem : List ℕ) (x : Stepped) → Ready r m → x ≡ record { answer = a; registers = r; pages = m }
+    → Makes (record { reply = replyOf a; chip = view r m mem }) mem x
+unchanged a r m mem x w e = rw e (record { chip = refl; reply = refl; queues = w .queues; map = w .map })

@@ -1,1 +1,2 @@
 -- What the entries' parameters stand for in `rules`.
+pub mod Parts
