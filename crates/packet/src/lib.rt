@@ -1,0 +1,9 @@
+// A packet's bytes in memory. Packet address a lies in page a / 256 of the packet's row, so adjacent addresses may lie in pages that are not adjacent.
+mod access; // access.rt: a byte or a word at an address
+
+pub use access::place_of;
+pub use access::read_byte;
+pub use access::read_word;
+pub use access::write_byte;
+pub use access::write_status;
+pub use access::write_word;
