@@ -1,0 +1,2 @@
+-- What the functions of this crate promise, in the words of the rules' `Send`.
+pub mod Numbers

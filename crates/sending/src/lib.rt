@@ -1,0 +1,27 @@
+// Document 01, "A send finishes".
+mod event; // event.rt: how a send ended
+mod nibbles; // nibbles.rt: the nibbles of ECR
+mod status; // status.rt: EPHSR and TCR after it
+
+pub use event::is_good;
+pub use event::is_within;
+pub use nibbles::any_full;
+pub use nibbles::new_ecr;
+pub use nibbles::tallied;
+pub use status::new_ephsr;
+pub use status::new_tcr;
+
+// How a send ended, as its input says; `sendOf` gives the rules' record of it.
+pub struct Send {
+    pub outcome: u8,
+    pub collisions: u8,
+    pub deferral: u8,
+}
+
+// The nibbles of ECR, lowest first: good after one collision; two or more; deferral 1; deferral 2.
+pub struct Tally {
+    pub single: u16,
+    pub several: u16,
+    pub deferred: u16,
+    pub excessive: u16,
+}
