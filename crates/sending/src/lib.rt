@@ -2,14 +2,10 @@
 mod event; // event.rt: how a send ended
 mod nibbles; // nibbles.rt: the nibbles of ECR
 mod status; // status.rt: EPHSR and TCR after it
-
-pub use event::is_good;
-pub use event::is_within;
-pub use nibbles::any_full;
-pub use nibbles::new_ecr;
-pub use nibbles::tallied;
-pub use status::new_ephsr;
-pub use status::new_tcr;
+mod address; // address.rt: the kind of the address
+mod output; // output.rt: what is put out
+mod registers; // registers.rt: the registers after it
+mod finish; // finish.rt: all of it
 
 // How a send ended, as its input says; `sendOf` gives the rules' record of it.
 pub struct Send {

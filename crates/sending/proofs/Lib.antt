@@ -1,0 +1,4 @@
+pub mod Facts
+pub mod Laws
+pub mod Loops
+pub mod Padding
