@@ -7,6 +7,8 @@ mod output; // output.rt: what is put out
 mod registers; // registers.rt: the registers after it
 mod finish; // finish.rt: all of it
 
+pub use finish::finished;
+
 // How a send ended, as its input says; `sendOf` gives the rules' record of it.
 pub struct Send {
     pub outcome: u8,
