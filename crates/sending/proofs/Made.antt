@@ -18,7 +18,7 @@ use Rattle.store.specs.Views.{entries, pagesOf}
 use Rattle.state.specs.declared.Registers.{Registers}
 use Rattle.state.specs.declared.Stepped.{Stepped}
 use Rattle.state.specs.declared.Answer.{Answer}
-use Rattle.state.specs.View.{registersOf, poolOf, view, replyOf, Ready, Makes}
+use Rattle.state.specs.View.{registersOf, poolOf, view, replyOf, Ready}
 use Rattle.sending.specs.Sends.{Sends, Sent}
 
 -- registers and queues that are others in the registers and in TX alone

@@ -5,7 +5,6 @@ ghost use mathlib.Core.Path.{_≡_};
 ghost use Prim.Native.Nat.{_+_, _-_, _≤_};
 ghost use lib.ListN.{length, replicate};
 ghost use lib.Seq.{sets};
-ghost use Rattle.rules.specs.Answers.{over};
 ghost use Rattle.rules.specs.Send.{usable, sendLength, putOut};
 ghost use Rattle.store.specs.Views.{used};
 ghost use Rattle.packet.specs.Room.{Room};

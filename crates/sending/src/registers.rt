@@ -7,7 +7,7 @@ use crate::status::new_ephsr;
 use crate::status::new_tcr;
 use state::Registers;
 ghost use mathlib.Core.Path.{_≡_};
-ghost use mathlib.Core.Bool.{_&&_, _||_};
+ghost use mathlib.Core.Bool.{_||_};
 ghost use Prim.Native.Nat.{_≤_, _<_};
 ghost use lib.Dec.{eqb};
 ghost use Rattle.rules.specs.Bits.{bit};

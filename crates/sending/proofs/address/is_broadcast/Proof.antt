@@ -1,14 +1,11 @@
 -- The address is all ones where the bytes from here on are.
 use borrow.Author.Needs.{needs}
 use mathlib.Core.Path.{_≡_, refl, sym, _∙_}
-use mathlib.Core.List.{List}
-use Prim.Native.Nat.{ℕ, _+_, _-_, _≤_}
+use Prim.Native.Nat.{_-_, _≤_}
 use native.Mathlib.Omega.{arith}
-use lib.ListN.{length}
 use Rattle.rules.specs.Packet.{getBytes}
 use Rattle.rules.specs.Receive.{broadcast, sameBytes}
 use Rattle.store.specs.Views.{used}
-use Rattle.packet.specs.Room.{Room}
 use Rattle.sending.proofs.Loops.{ones, ones-on, ones-not}
 use Rattle.sending.proofs.address.is_broadcast.Statement.{statement}
 use Rattle.sending.proofs.address.is_broadcast.Tie as tie

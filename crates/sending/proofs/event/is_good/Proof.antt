@@ -1,9 +1,8 @@
 -- By the outcome; the tests of TCR are `is_set`'s.
 use borrow.Author.Needs.{needs}
-use mathlib.Core.Path.{_≡_, ap, sym, _∙_}
-use mathlib.Core.Bool.{Bool, true, false, not, or-false, Bool·not-not}
+use mathlib.Core.Path.{ap, sym, _∙_}
+use mathlib.Core.Bool.{not, or-false, Bool·not-not}
 use borrow.Author.Tests.{not-true, not-false, ne-eqb}
-use Rattle.rules.specs.Bits.{bit}
 use Rattle.rules.specs.Send.{good}
 use Rattle.sending.proofs.event.is_good.Statement.{statement}
 use Rattle.sending.proofs.event.is_good.Tie as tie

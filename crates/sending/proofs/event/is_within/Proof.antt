@@ -1,5 +1,4 @@
 -- Test by test.
-use mathlib.Core.Path.{_≡_}
 use mathlib.Core.Bool.{and-true, and-false}
 use borrow.Author.Tests.{le-leb, lt-leb, eq-eqb, ne-eqb}
 use Rattle.rules.specs.Send.{within}

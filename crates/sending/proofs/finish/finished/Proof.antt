@@ -2,16 +2,13 @@
 use borrow.Author.Needs.{needs}
 use mathlib.Core.Path.{_≡_, refl, sym, subst, _∙_}
 use mathlib.Core.Bool.{true}
-use mathlib.Core.List.{List}
-use Prim.Native.Nat.{ℕ, _≤_, _<_}
+use Prim.Native.Nat.{ℕ, _<_}
 use native.Mathlib.Omega.{arith}
 use borrow.Author.Tests.{not-true, not-false}
-use lib.ListN.{length}
 use Rattle.rules.specs.Bits.{bit}
 use Rattle.rules.specs.Chip.{Chip}
 use Rattle.rules.specs.Answers.{Turn, refused}
 use Rattle.rules.specs.Send.{Send, within, sendDone}
-use Rattle.store.specs.Views.{entries}
 use Rattle.store.proofs.Facts.{entries-length}
 use Rattle.state.specs.declared.Stepped.{Stepped}
 use Rattle.state.specs.declared.Answer.{Answer}

@@ -1,6 +1,5 @@
 -- Below 15 one more is at most 15, and from 15 on it stays there.
 use borrow.Author.Needs.{needs}
-use native.Mathlib.Omega.{arith}
 use borrow.Author.Tests.{not-true, not-false}
 use Rattle.rules.specs.Send.{counted}
 use Rattle.sending.proofs.nibbles.counted.Statement.{statement}

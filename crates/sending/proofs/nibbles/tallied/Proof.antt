@@ -1,9 +1,7 @@
 -- Each nibble is its counter's, and the lowest is the register's remainder by 16.
 use borrow.Author.Needs.{needs}
-use mathlib.Core.Path.{_≡_, ap, ap₂, sym, _∙_}
-use mathlib.Core.Bool.{Bool}
-use mathlib.Core.List.{List, [], _∷_}
-use Prim.Native.Nat.{ℕ, _/_, _%_}
+use mathlib.Core.Path.{ap, ap₂, sym, _∙_}
+use Prim.Native.Nat.{ℕ, _%_}
 use native.Mathlib.Nat.{div-one}
 use Rattle.rules.specs.Send as rules
 use Rattle.rules.specs.Send.{tally, nibble}

@@ -1,14 +1,13 @@
 -- The data goes out first, and the zeros behind it.
 use borrow.Author.Needs.{needs}
 use mathlib.Core.Path.{_≡_, ap, sym, _∙_}
-use mathlib.Core.List.{List, _++_}
-use Prim.Native.Nat.{ℕ, _+_, _-_, _≤_}
+use mathlib.Core.List.{List}
+use Prim.Native.Nat.{ℕ, _+_, _-_}
 use native.Mathlib.Omega.{arith}
 use borrow.Author.Tests.{not-true, not-false}
 use lib.ListN.{length, replicate}
 use lib.Seq.{sets}
 use Rattle.rules.specs.Answers.{over}
-use Rattle.rules.specs.Packet.{getBytes}
 use Rattle.rules.specs.Send.{sendLength, controlByte, putOut}
 use Rattle.lists.specs.Bytes.{length-get, value-first}
 use Rattle.store.specs.Views.{used}

@@ -1,7 +1,7 @@
 use borrow.Author.Needs.{needs}
 use borrow.Author.Tests.{not-true, not-false}
-use Rattle.sending.proofs.finish.is_released.Statement.{statement}
-use Rattle.sending.proofs.finish.is_released.Tie as tie
+use Rattle.sending.proofs.completion.is_released.Statement.{statement}
+use Rattle.sending.proofs.completion.is_released.Tie as tie
 
 returns : tie.Need-returns
 returns c = rw (not-true (c .before .args .good) (c .if1 .taken))

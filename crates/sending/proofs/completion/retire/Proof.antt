@@ -1,12 +1,12 @@
 -- Only the page map changes, or only completion.
 use borrow.Author.Needs.{needs}
-use mathlib.Core.Path.{_≡_, refl, ap}
+use mathlib.Core.Path.{refl, ap}
 use mathlib.Core.List.{List}
 use Prim.Native.Nat.{ℕ}
 use Rattle.rules.specs.Fields.{setPages, setDone, inPool}
 use Rattle.state.specs.View.{view}
-use Rattle.sending.proofs.finish.retire.Statement.{statement}
-use Rattle.sending.proofs.finish.retire.Tie as tie
+use Rattle.sending.proofs.completion.retire.Statement.{statement}
+use Rattle.sending.proofs.completion.retire.Tie as tie
 
 returns : tie.Need-returns
 returns c =

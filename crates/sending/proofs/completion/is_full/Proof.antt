@@ -1,6 +1,6 @@
 use borrow.Author.Needs.{needs}
-use Rattle.sending.proofs.finish.is_full.Statement.{statement}
-use Rattle.sending.proofs.finish.is_full.Tie as tie
+use Rattle.sending.proofs.completion.is_full.Statement.{statement}
+use Rattle.sending.proofs.completion.is_full.Tie as tie
 
 returns-2 : tie.Need-returns-2
 returns-2 c = rw (c .if1 .left)
