@@ -136,7 +136,7 @@ pub part-put : (pages bytes m : List ℕ) (a i k : ℕ) → i ≡ place pages a 
 part-put pages bytes m a i k e h f g = part-over m i k bytes f g ∙ ap (λ (j : ℕ). sets m j bytes) e ∙ sym (put-within pages bytes a m h)
 
 -- Bytes written on from where the front that was written over ends.
-over-more : (front bytes buffer : List ℕ) → length front + length bytes ≤ length buffer → sets (over front buffer) (length front) bytes ≡ over (front ++ bytes) buffer
+pub over-more : (front bytes buffer : List ℕ) → length front + length bytes ≤ length buffer → sets (over front buffer) (length front) bytes ≡ over (front ++ bytes) buffer
 over-more front bytes buffer h =
     let n = length front in
     let k = length bytes in
