@@ -1,6 +1,9 @@
 -- From what a step makes to what an entry promises: the turn of the rules, on a record that is in order again.
 use mathlib.Core.Path.{_≡_, refl, ap, sym, subst, _∙_}
+use mathlib.Core.Bool.{Bool, true, false, not, true≢false}
 use mathlib.Core.List.{List, []}
+use borrow.Author.Tests.{not-true, not-false}
+use Rattle.lists.specs.Facts.{Decides}
 use Prim.Native.Nat.{ℕ}
 use lib.ListN.{length}
 use Rattle.rules.specs.Chip.{Chip}
@@ -8,7 +11,8 @@ use Rattle.rules.specs.Answers.{Step, Turn, leaving}
 use Rattle.rules.specs.WellFormed.{FormedAt}
 use Rattle.rules.specs.Registers.{Access, access}
 use Rattle.rules.specs.Receive.{Frame, arrive}
-use Rattle.rules.specs.Step.{Input, driver, frame, stepOn, step}
+use Rattle.rules.specs.Send.{Send, sendDone}
+use Rattle.rules.specs.Step.{Input, driver, frame, sent, stepOn, step}
 use Rattle.laws.specs.Fit.{step-fit}
 use Rattle.laws.specs.Keeps.{keeps}
 use Rattle.store.specs.declared.Page.{Page}
@@ -18,7 +22,8 @@ use Rattle.state.specs.declared.Stepped.{Stepped}
 use Rattle.state.specs.declared.Touched.{Touched}
 use Rattle.state.specs.declared.Answer.{Answer}
 use Rattle.state.specs.View.{view, replyOf, Ready, Makes, Touches}
-use Rattle.state.specs.Promise.{InOrder, Right}
+use Rattle.state.specs.declared.Answer.the-variants.{Damaged}
+use Rattle.state.specs.Promise.{InOrder, Right, Answers}
 
 -- the step of a turn
 abbrev pub stepIn : Turn → Step
@@ -50,6 +55,27 @@ module _ (r : Registers) (m : List (List Page)) (mem : List ℕ) (o : InOrder r 
   pub right-frame : (f : Frame) (x : Stepped) (mem′ : List ℕ) → Makes (arrive f (view r m mem)) mem′ x → Right (step (frame f) (view r m mem) []) x mem′ []
   unfolding stepOn
   right-frame f x mem′ p = right (frame f) [] x mem′ [] p refl
+
+-- A send leaves the output that its turn has.
+pub right-send : (r : Registers) (m : List (List Page)) (mem : List ℕ) → InOrder r m mem → (s : Send) (out : List ℕ) (x : Stepped) (mem′ out′ : List ℕ)
+    → Makes (stepIn (sendDone s (view r m mem) out)) mem′ x → out′ ≡ sendDone s (view r m mem) out .output → Right (step (sent s) (view r m mem) out) x mem′ out′
+unfolding stepOn
+right-send r m mem o s out x mem′ out′ = right r m mem o (sent s) out x mem′ out′
+
+-- What is returned of a record that is not in order.
+pub damaged : (i : Input) (r : Registers) (m : List (List Page)) (mem out : List ℕ) (x : Stepped) → (InOrder r m mem → ⊥) → x ≡ record { answer = Damaged; registers = r; pages = m } → Answers i r m mem out x mem out
+damaged i r m mem out x n e = record { done = λ o. absurd (n o); broken = λ o. record { same = e; memory = refl; output = refl } }
+
+-- What is right of a record that is in order.
+pub answered : (i : Input) (r : Registers) (m : List (List Page)) (mem out : List ℕ) (x : Stepped) (mem′ out′ : List ℕ) → InOrder r m mem → Right (step i (view r m mem) out) x mem′ out′ → Answers i r m mem out x mem′ out′
+answered i r m mem out x mem′ out′ o p = record { done = λ q. p; broken = λ n. absurd (n o) }
+
+-- A test that says no.
+pub not-in : {b : Bool} {P : Type 0} → Decides b P → not b ≡ true → P → ⊥
+not-in d e p = true≢false (sym (d .complete p) ∙ not-true _ e)
+
+pub is-in : {b : Bool} {P : Type 0} → Decides b P → not b ≡ false → P
+is-in d e = d .sound (not-false _ e)
 
 -- A step that left the page map, beside that map.
 pub touched : (s : Step) (m : List (List Page)) (mem : List ℕ) (t : Touched) (x : Stepped) → SoundMap m → Touches s m mem t
