@@ -3,12 +3,11 @@ use borrow.Author.Needs.{needs}
 use borrow.Author.Tests.{eq-eqb, ne-eqb}
 use mathlib.Core.Path.{_≡_, refl, ap, sym, _∙_}
 use mathlib.Core.List.{List, [], _∷_, map}
-use Prim.Native.Nat.{ℕ, _/_, _<_}
-use native.Mathlib.Omega.{arith}
+use Prim.Native.Nat.{_/_}
 use lib.ListN.{getD, replicate, List·getD-map}
 use Rattle.lists.specs.Each.{Each, each-at}
 use Rattle.rules.specs.Registers.{Register, ABSENT, banks, registerAt}
-use Rattle.registers.specs.declared.Place.the-variants.{Tcr, Ephsr, Ecr, Mir, Reserved, Station, Control, Packet, Heads, Pointer, Interrupt, Table, Bank, Unused}
+use Rattle.registers.specs.declared.Place.the-variants.{Tcr, Ephsr, Ecr, Mir, Reserved, Station, Control, Packet, Heads, Pointer, Interrupt, Table, Unused}
 use Rattle.registers.specs.declared.Reached.{Reached}
 use Rattle.registers.specs.declared.Reached.the-variants.{Absent, Data, Command, Rcr, Plain}
 use Rattle.registers.specs.Meaning.{registerOf, Known}
