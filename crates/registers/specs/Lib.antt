@@ -1,2 +1,3 @@
--- What the enums of this crate mean, and laws of registers.
+-- What the enums of this crate mean, and what its functions promise.
 pub mod Meaning
+pub mod Promises

@@ -1,11 +1,6 @@
 -- What the enums of this crate stand for in `rules`.
-use mathlib.Core.List.{List}
-use Prim.Native.Nat.{ℕ, _<_}
+use Prim.Native.Nat.{_<_}
 use Rattle.rules.specs.Registers as rules
-use Rattle.store.specs.declared.Page.{Page}
-use Rattle.state.specs.declared.Registers.{Registers}
-use Rattle.state.specs.declared.Touched.{Touched}
-use Rattle.state.specs.View.{view, Touches}
 use Rattle.registers.specs.declared.Width.{Width}
 use Rattle.registers.specs.declared.Width.the-variants as width
 use Rattle.registers.specs.declared.Part.{Part}
@@ -70,11 +65,3 @@ Known reached.Data = Unit {0}
 Known reached.Command = Unit {0}
 Known reached.Rcr = Unit {0}
 Known (reached.Plain p) = InRange p
-
--- what a read of a register promises: the rules' step on what the registers and the map stand for, whatever the memory holds
-abbrev pub Reads : rules.Register → Part → Registers → List (List Page) → Touched → Type 0
-Reads k p r m t = (mem : List ℕ) → Touches (rules.readRegister k (partOf p) (view r m mem)) m mem t
-
--- and a write, which does not look at the map either
-abbrev pub Writes : rules.Register → Part → ℕ → Registers → Touched → Type 0
-Writes k p v r t = (m : List (List Page)) (mem : List ℕ) → Touches (rules.writeRegister k (partOf p) v (view r m mem)) m mem t

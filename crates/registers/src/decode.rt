@@ -23,6 +23,7 @@ pub fn misplaced(width: Width, offset: u8) -> bool
     }
 }
 
+// Which bytes of its register an access reaches.
 pub fn part_at(width: Width, offset: u8) -> Part
     ensures { λ p. ⌜ partOf p ≡ rules.partAt (widthOf width) offset ⌝ }
 {
@@ -85,6 +86,7 @@ const BANKS: [[Reached; 7]; 8] = [
     [UNUSED; 7],
 ];
 
+// The register that an access reaches: offset E is the bank in every bank.
 pub fn register_at(bank: u8, offset: u8) -> Reached
     requires { ⌜ (bank < 8) × (offset < 16) ⌝ }
     ensures { λ r. ⌜ (registerOf r ≡ rules.registerAt bank offset) × Known r ⌝ }

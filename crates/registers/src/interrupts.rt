@@ -63,6 +63,7 @@ fn status_byte(rx: bool, done: bool, txempty: bool, granted: bool, overrun: bool
     (low + high) as u8
 }
 
+// Interrupt status, which looks at no page.
 pub fn status(r: Registers) -> u8
     requires { ⌜ SoundQueues (r .rx) (r .tx) (r .done) ⌝ }
     ensures { λ s. ⌜ ((m : List (List Page)) (mem : List ℕ) → s ≡ rules.status (view r m mem)) ⌝ }
@@ -80,6 +81,7 @@ pub fn status(r: Registers) -> u8
     )
 }
 
+// Is the interrupt line up?
 pub fn line_up(r: Registers) -> bool
     requires { ⌜ SoundQueues (r .rx) (r .tx) (r .done) ⌝ }
     ensures { λ b. ⌜ ((m : List (List Page)) (mem : List ℕ) → b ≡ rules.lineUp (view r m mem)) ⌝ }
@@ -109,6 +111,7 @@ fn completion_left(done: Queue, v: u8) -> Queue
     store::pop(done)
 }
 
+// A write of v to interrupt status.
 pub fn acknowledged(r: Registers, v: u8) -> Registers
     requires { ⌜ SoundQueues (r .rx) (r .tx) (r .done) ⌝ }
     ensures { λ x. ⌜ ((m : List (List Page)) (mem : List ℕ) → view x m mem ≡ rules.acknowledge v (view r m mem)) × SoundQueues (x .rx) (x .tx) (x .done) ⌝ }

@@ -4,15 +4,17 @@ mod words; // words.rt: the part of a word that an access reads or writes
 mod interrupts; // interrupts.rt: interrupt status, acknowledge, the line
 mod reads; // reads.rt: reads
 mod writes; // writes.rt: writes
+mod resets; // resets.rt: power-up, and RCR
 
 pub use decode::misplaced;
 pub use decode::part_at;
 pub use decode::register_at;
-pub use interrupts::acknowledged;
 pub use interrupts::line_up;
-pub use interrupts::status;
 pub use reads::read_plain;
 pub use reads::read_rcr;
+pub use resets::powered;
+pub use resets::reset_registers;
+pub use resets::write_rcr;
 pub use writes::write_plain;
 
 pub enum Width {

@@ -20,7 +20,8 @@ ghost use Rattle.rules.specs.Interrupts.{shownEphsr};
 ghost use Rattle.rules.specs.Registers as rules;
 ghost use Rattle.store.specs.Views.{entries, pagesOf, SoundQueue};
 ghost use Rattle.state.specs.View.{registersOf, SoundQueues, Ready};
-ghost use Rattle.registers.specs.Meaning.{partOf, placeOf, InRange, Reads};
+ghost use Rattle.registers.specs.Meaning.{partOf, placeOf, InRange};
+ghost use Rattle.registers.specs.Promises.{Reads};
 
 // Done, with the part of the word that the access reaches.
 fn gives(part: Part, word: u16, r: Registers) -> Touched

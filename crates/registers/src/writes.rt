@@ -17,7 +17,8 @@ ghost use Rattle.rules.specs.Bits.{bit};
 ghost use Rattle.rules.specs.Answers.{did};
 ghost use Rattle.rules.specs.Registers as rules;
 ghost use Rattle.state.specs.View.{view, SoundQueues, Touches};
-ghost use Rattle.registers.specs.Meaning.{partOf, placeOf, InRange, Writes};
+ghost use Rattle.registers.specs.Meaning.{partOf, placeOf, InRange};
+ghost use Rattle.registers.specs.Promises.{Writes};
 
 // Done, and nothing to give.
 fn done(r: Registers) -> Touched

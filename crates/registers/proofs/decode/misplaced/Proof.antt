@@ -1,11 +1,9 @@
 -- By the width, then as rules' tests go.
 use borrow.Author.Needs.{needs}
 use borrow.Author.Tests.{lt-ltb, le-ltb}
-use mathlib.Core.Path.{ap, sym, _∙_}
+use mathlib.Core.Path.{sym}
 use Rattle.bits.specs.Laws.{bit-zero}
 use Rattle.rules.specs.Registers.{misplaced}
-use Rattle.registers.specs.declared.Width.{Width}
-use Rattle.registers.specs.Meaning.{widthOf}
 use Rattle.registers.proofs.decode.misplaced.Statement.{statement}
 use Rattle.registers.proofs.decode.misplaced.Tie as tie
 

@@ -3,7 +3,6 @@ use borrow.Author.Needs.{needs}
 use borrow.Author.Tests.{eq-eqb, ne-eqb}
 use Rattle.bits.specs.Laws.{bit-zero}
 use Rattle.rules.specs.Registers.{partAt}
-use Rattle.registers.specs.Meaning.{widthOf}
 use Rattle.registers.proofs.decode.part_at.Statement.{statement}
 use Rattle.registers.proofs.decode.part_at.Tie as tie
 

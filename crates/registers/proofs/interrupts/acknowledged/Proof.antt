@@ -13,14 +13,8 @@ use Rattle.registers.proofs.interrupts.acknowledged.Tie as tie
 
 returns : tie.Need-returns
 returns c =
-    let s = c .before .before .before .before in
-    let e = c .before .before .completion-left .ensures in
-    let q = s .pre in (
-      λ m mem. let v = view (s .args .r) m mem in
-          ap₂ (λ (l : List ℕ) (b : Bool). inPool (setDone l) (inRegisters (λ x. setTxEmpty b (setOverrun (c .kept2 .result) x)) v)) (e .0) (c .before .kept .ensures)
-          ∙ ap (λ (b : Bool). inPool (setDone (cond (bit 1 (s .args .v)) (drop 1 (v .pool .done)) (v .pool .done))) (inRegisters (λ x. setTxEmpty (v .regs .txEmpty && not (bit 2 (s .args .v))) (setOverrun b x)) v)) (c .kept2 .ensures),
-      record { rx = q .rx; tx = q .tx; done = e .1 },
-    )
+    let q = c .before .before .before .before .pre in
+    (λ m mem. cc (c .before .before .completion-left .ensures .0), record { rx = q .rx; tx = q .tx; done = c .before .before .completion-left .ensures .1 })
 
 pub acknowledged-spec : {M : Type 1} → statement M
 acknowledged-spec =

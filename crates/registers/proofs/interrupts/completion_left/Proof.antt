@@ -2,7 +2,6 @@
 use borrow.Author.Needs.{needs}
 use borrow.Author.Tests.{not-true, not-false}
 use mathlib.Core.Path.{sym, _∙_}
-use Rattle.rules.specs.Registers.{taken}
 use Rattle.registers.proofs.Queues.{no-entries}
 use Rattle.registers.proofs.interrupts.completion_left.Statement.{statement}
 use Rattle.registers.proofs.interrupts.completion_left.Tie as tie

@@ -2,9 +2,7 @@
 -- By the count.
 use borrow.Author.Needs.{needs}
 use mathlib.Core.Path.{sym, _∙_}
-use Rattle.rules.specs.Registers.{taken}
 use mathlib.Core.Path.{sym, _∙_}
-use Rattle.rules.specs.Registers.{taken}
 use Rattle.registers.proofs.Queues.{head-none, head-some}
 use Rattle.registers.proofs.interrupts.head_shown.Statement.{statement}
 use Rattle.registers.proofs.interrupts.head_shown.Tie as tie

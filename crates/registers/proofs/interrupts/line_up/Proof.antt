@@ -2,7 +2,7 @@
 use borrow.Author.Needs.{needs}
 use mathlib.Core.Path.{ap, _∙_}
 use Prim.Native.Nat.{ℕ}
-use Rattle.rules.specs.Interrupts.{status, lineUp}
+use Rattle.rules.specs.Interrupts.{lineUp}
 use Rattle.rules.specs.Bits.{share}
 use Rattle.registers.proofs.interrupts.line_up.Statement.{statement}
 use Rattle.registers.proofs.interrupts.line_up.Tie as tie

@@ -2,7 +2,6 @@
 use borrow.Author.Needs.{needs}
 use mathlib.Core.Path.{ap}
 use Prim.Native.Nat.{ℕ}
-use Rattle.rules.specs.Registers.{taken}
 use Rattle.state.specs.declared.Answer.the-variants.{Done}
 use Rattle.registers.proofs.reads.gives.Statement.{statement}
 use Rattle.registers.proofs.reads.gives.Tie as tie

@@ -1,7 +1,6 @@
 -- At most 24 pages are free, which fits a byte.
 use borrow.Author.Needs.{needs}
 use mathlib.Core.Path.{ap, _∙_}
-use mathlib.Core.List.{map}
 use native.Mathlib.Omega.{arith}
 use Rattle.rules.specs.Bits.{wordOf}
 use Rattle.store.specs.Views.{pagesOf}

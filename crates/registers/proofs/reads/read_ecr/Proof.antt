@@ -1,6 +1,6 @@
 -- The stored word; then the two are cleared.
 use borrow.Author.Needs.{needs}
-use mathlib.Core.Path.{refl, ap, sym}
+use mathlib.Core.Path.{ap, sym}
 use Prim.Native.Nat.{ℕ}
 use Rattle.rules.specs.Fields.{setEphsr, setEcr, inRegisters}
 use Rattle.rules.specs.Answers.{gives}

@@ -14,7 +14,8 @@ use Rattle.state.specs.declared.Answer.the-variants.{Done}
 use Rattle.state.specs.View.{view}
 use Rattle.registers.specs.declared.Place.{Place}
 use Rattle.registers.specs.declared.Place.the-variants as place
-use Rattle.registers.specs.Meaning.{partOf, placeOf, InRange, Reads}
+use Rattle.registers.specs.Meaning.{partOf, placeOf, InRange}
+use Rattle.registers.specs.Promises.{Reads}
 use Rattle.registers.proofs.Returned.{returned}
 use Rattle.registers.proofs.reads.read_plain.Statement.{statement}
 use Rattle.registers.proofs.reads.read_plain.Tie as tie

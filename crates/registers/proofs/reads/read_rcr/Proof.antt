@@ -1,7 +1,6 @@
 -- The stored word.
 use borrow.Author.Needs.{needs}
 use mathlib.Core.Path.{refl}
-use Rattle.rules.specs.Answers.{gives}
 use Rattle.rules.specs.Registers.{readRegister}
 use Rattle.rules.specs.Registers as rules
 use Rattle.registers.proofs.Returned.{returned}

@@ -1,7 +1,6 @@
 -- By TXENA.
 use borrow.Author.Needs.{needs}
 use mathlib.Core.Path.{sym, _∙_}
-use Rattle.rules.specs.Registers.{taken, forgotten}
 use Rattle.registers.proofs.writes.ephsr_after.Statement.{statement}
 use Rattle.registers.proofs.writes.ephsr_after.Tie as tie
 

@@ -5,12 +5,13 @@ use Prim.Native.Nat.{ℕ}
 use Rattle.rules.specs.Chip.{Chip}
 use Rattle.rules.specs.Fields.{setReserved, setControl, setPointer, inRegisters}
 use Rattle.rules.specs.Answers.{did, refuse}
-use Rattle.rules.specs.Registers.{merged, writeRegister, lowOnly}
+use Rattle.rules.specs.Registers.{writeRegister, lowOnly}
 use Rattle.state.specs.declared.Touched.{Touched}
 use Rattle.state.specs.declared.Answer.the-variants.{Done, ReadOnly}
 use Rattle.state.specs.View.{view, Touches}
 use Rattle.registers.specs.declared.Place.{Place}
-use Rattle.registers.specs.Meaning.{partOf, placeOf, InRange, Writes}
+use Rattle.registers.specs.Meaning.{partOf, placeOf, InRange}
+use Rattle.registers.specs.Promises.{Writes}
 use Rattle.registers.proofs.Returned.{returned}
 use Rattle.registers.proofs.writes.write_plain.Statement.{statement}
 use Rattle.registers.proofs.writes.write_plain.Tie as tie

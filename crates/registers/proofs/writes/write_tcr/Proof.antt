@@ -4,7 +4,7 @@ use mathlib.Core.Path.{ap, sym, _∙_}
 use Prim.Native.Nat.{ℕ}
 use Rattle.rules.specs.Fields.{setTcr, setEphsr, inRegisters}
 use Rattle.rules.specs.Answers.{did}
-use Rattle.rules.specs.Registers.{merged, writeRegister, writeTcr}
+use Rattle.rules.specs.Registers.{writeRegister, writeTcr}
 use Rattle.state.specs.declared.Registers.{Registers}
 use Rattle.state.specs.declared.Answer.the-variants.{Done}
 use Rattle.state.specs.View.{view}
