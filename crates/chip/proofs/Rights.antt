@@ -86,3 +86,7 @@ touched s m mem t x h p e = rw e (record { chip = p .chip; reply = p .reply; que
 pub unchanged : (a : Answer) (r : Registers) (m : List (List Page)) (mem : List ℕ) (x : Stepped) → Ready r m → x ≡ record { answer = a; registers = r; pages = m }
     → Makes (record { reply = replyOf a; chip = view r m mem }) mem x
 unchanged a r m mem x w e = rw e (record { chip = refl; reply = refl; queues = w .queues; map = w .map })
+
+-- What makes a step makes the same step said otherwise.
+pub made-as : {s t : Step} {mem : List ℕ} {x : Stepped} → s ≡ t → Makes t mem x → Makes s mem x
+made-as {mem = m} {x = y} e = subst (λ (k : Step). Makes k m y) (sym e)

@@ -1,2 +1,3 @@
 -- What the entries' parameters stand for in `rules`.
 pub mod Parts
+pub mod Entry

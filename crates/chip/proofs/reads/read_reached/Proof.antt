@@ -1,10 +1,9 @@
-use mathlib.Core.Path.{_≡_, refl, ap, sym, subst, _∙_}
+use mathlib.Core.Path.{_≡_, ap, sym, subst, _∙_}
 use borrow.Author.Needs.{needs}
 use Prim.Native.Nat.{ℕ}
 use mathlib.Core.List.{List}
 use Rattle.rules.specs.Registers as rules
 use Rattle.registers.specs.declared.Part.{Part}
-use Rattle.registers.specs.declared.Part.the-variants.{Low, High, Both}
 use Rattle.registers.specs.declared.Reached.{Reached}
 use Rattle.registers.specs.Meaning.{partOf, registerOf, Known}
 use Rattle.rules.specs.Chip.{Chip}
@@ -12,8 +11,8 @@ use Rattle.rules.specs.Data.{readData}
 use Rattle.data.specs.Access.{widthOf}
 use Rattle.state.specs.declared.Answer.the-variants.{Done, NotModelled}
 use Rattle.state.specs.declared.Stepped.{Stepped}
-use Rattle.state.specs.View.{view, Makes, Touches}
-use Rattle.chip.specs.Parts.{wide}
+use Rattle.state.specs.View.{view, Makes}
+use Rattle.chip.proofs.Placed.{reads-data}
 use Rattle.chip.proofs.Rights.{touched, unchanged}
 use Rattle.chip.proofs.reads.read_reached.Statement.{statement}
 use Rattle.chip.proofs.reads.read_reached.Tie as tie
@@ -21,17 +20,6 @@ use Rattle.chip.proofs.reads.read_reached.Tie as tie
 -- what is reached is the arm's
 as-told : {k k′ : Reached} (p : Part) (c : Chip) (mem : List ℕ) {x : Stepped} → k ≡ k′ → Makes (rules.readRegister (registerOf k′) (partOf p) c) mem x → Makes (rules.readRegister (registerOf k) (partOf p) c) mem x
 as-told p c mem {x} e = subst (λ (j : Reached). Makes (rules.readRegister (registerOf j) (partOf p) c) mem x) (sym e)
-
--- the width of a data access
-width-told : (p : rules.Part) → widthOf (wide p) ≡ rules.width p
-unfolding rules.width
-width-told rules.low = refl
-width-told rules.high = refl
-width-told rules.both = refl
-
-read-data-is : (p : rules.Part) (c : Chip) → rules.readRegister rules.DATA p c ≡ readData (widthOf (wide p)) c
-unfolding rules.readRegister
-read-data-is p c = ap (λ (n : ℕ). readData n c) (sym (width-told p))
 
 read-plain-requires : tie.Need-read-plain-requires
 read-plain-requires c κs =
@@ -55,7 +43,7 @@ returns-3 c =
     let s = c .before .before .before .before .before .before in
     let v = view (s .args .r) (s .args .map) (s .args .memory .now) in
     let e : rules.readRegister rules.DATA (partOf (s .args .part)) v ≡ readData (widthOf (c .before .before .is-wide .result)) v =
-    read-data-is (partOf (s .args .part)) v ∙ ap (λ b. readData (widthOf b) v) (sym (c .before .before .is-wide .ensures)) in
+    reads-data (partOf (s .args .part)) v ∙ ap (λ b. readData (widthOf b) v) (sym (c .before .before .is-wide .ensures)) in
     as-told (s .args .part) v (s .args .memory .now) (c .before .before .before .enum-told3 .given .1)
     (rw e (touched _ (s .args .map) (s .args .memory .now) _ _ (s .pre .1 .ready .map) (c .before .read-data .ensures) (c .beside .ensures)))
 

@@ -1,0 +1,42 @@
+use borrow.Author.Needs.{needs}
+use mathlib.Core.Path.{ap₂, sym, _∙_}
+use Rattle.rules.specs.Registers as rules
+use Rattle.registers.specs.Meaning.{widthOf}
+use Rattle.state.specs.View.{view}
+use Rattle.state.specs.declared.Answer.the-variants.{Misplaced}
+use Rattle.chip.proofs.Placed.{read-misplaced, read-placed, placed-small}
+use Rattle.chip.proofs.Rights.{made-as, unchanged}
+use Rattle.chip.proofs.accesses.read_at.Statement.{statement}
+use Rattle.chip.proofs.accesses.read_at.Tie as tie
+
+returns : tie.Need-returns
+returns c =
+    let s = c .before .before .before .before in
+    let v = view (s .args .r) (s .args .map) (s .args .memory .now) in
+    let e = read-misplaced (widthOf (s .args .width)) (s .args .offset) v (sym (c .before .before .misplaced .ensures) ∙ c .before .if1 .taken) in
+    made-as e (unchanged Misplaced (s .args .r) (s .args .map) (s .args .memory .now) _ (s .pre .ready) (c .make-stepped .ensures))
+
+register-at-requires : tie.Need-register-at-requires
+register-at-requires c κs =
+    let s = c .before .before .before in
+    (s .pre .ready .well .bankSmall, placed-small (widthOf (s .args .width)) (s .args .offset) (sym (c .before .misplaced .ensures) ∙ c .if1 .left))
+
+returns-2 : tie.Need-returns-2
+returns-2 c =
+    let g = c .before .before in
+    let s = g .before .before .before .before in
+    let v = view (s .args .r) (s .args .map) (s .args .memory .now) in
+    let e = read-placed (widthOf (s .args .width)) (s .args .offset) v (sym (g .before .before .misplaced .ensures) ∙ g .before .if1 .left) in
+    made-as (sym (ap₂ (λ (k : rules.Register) (p : rules.Part). rules.readRegister k p v) (g .register-at .ensures .0) (c .before .part-at .ensures) ∙ sym e)) (c .read-reached .ensures)
+
+pub read-at-spec : {M : Type 1} → statement M
+read-at-spec =
+    tie.close
+    (tie.spec
+    (λ c κs. search needs)
+    (λ c κs. search needs)
+    returns
+    register-at-requires
+    (λ c κs. search needs)
+    (λ c κs. search needs)
+    returns-2)
