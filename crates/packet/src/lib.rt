@@ -13,7 +13,6 @@ pub use fill::copy_out;
 pub use fill::copy_page;
 pub use fill::fill_page;
 pub use fill::fill_part;
-pub use fill::least;
 pub use frame::store_data;
 pub use frame::store_frame;
 pub use frame::write_trailer;

@@ -39,7 +39,7 @@ fn send_head(
     let head = store::head(tx);
     let row = store::row_of(map, head);
     let count = packet::read_word(memory, row, Address(2));
-    if !is_usable(count, store::count(row)) {
+    if !is_usable(count, store::pages_in(row)) {
         return state::make_stepped(Answer::BadCount, r, map);
     }
     let good = is_good(r.tcr, s.outcome);

@@ -1,12 +1,11 @@
 use borrow.Author.Needs.{needs}
-use mathlib.Core.Path.{_≡_, ap, sym, _∙_}
+use mathlib.Core.Path.{ap, _∙_}
 use mathlib.Core.List.{List, [], _∷_}
 use Prim.Native.Nat.{ℕ, _+_, _≤_}
 use native.Mathlib.Numerals.{add-one}
 use native.Mathlib.Omega.{arith}
 use Rattle.rules.specs.Packet.{putBytes}
-use Rattle.rules.specs.Receive.{countOf}
-use Rattle.lists.specs.Bytes.{trailer-odd, trailer-even, count-odd, count-even, count-least, put-append}
+use Rattle.lists.specs.Bytes.{trailer-odd, trailer-even, count-even, count-least}
 use Rattle.store.specs.Views.{used}
 use Rattle.packet.proofs.Facts.{room-less, room-put, room-small}
 use Rattle.packet.proofs.frame.write_trailer.Statement.{statement}

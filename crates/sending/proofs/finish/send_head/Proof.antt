@@ -50,7 +50,7 @@ counted d =
     d .read-word .ensures ∙ value-word 2 (used (o .row-of .result)) (start o .args .memory .now)
 
 judged : (i : tie.After-is-usable) → i .is-usable .result ≡ usable (i .before .before .read-word .result) (length (used (row-at i .row-of .result)))
-judged i = i .is-usable .ensures ∙ ap (usable (i .before .before .read-word .result)) (i .before .count .ensures)
+judged i = i .is-usable .ensures ∙ ap (usable (i .before .before .read-word .result)) (i .before .pages-in .ensures)
 
 fitting : (e : tie.Else1) → let i = e .before in (12 ≤ i .before .before .read-word .result) × (i .before .before .read-word .result ≤ 256 * length (used (row-at i .row-of .result)))
 fitting e =
@@ -67,7 +67,7 @@ is-usable-requires : tie.Need-is-usable-requires
 is-usable-requires c κs =
     let o = c .before .before .before in
     let s = start o in
-    omega (arith, c .count .ensures, row-few (s .args .r) (s .args .map) (s .pre .0) (s .pre .3) (o .row-of .result) (paged o))
+    omega (arith, c .pages-in .ensures, row-few (s .args .r) (s .args .map) (s .pre .0) (s .pre .3) (o .row-of .result) (paged o))
 
 -- the places on the way to the end
 abbrev else-at : tie.After-is-full → tie.Else1
