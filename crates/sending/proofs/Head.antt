@@ -15,6 +15,7 @@ use Rattle.store.specs.declared.Page.{Page}
 use Rattle.store.specs.Views.{used, pagesOf, entries}
 use Rattle.store.proofs.Facts.{entries-length}
 use Rattle.packet.specs.Room.{Room}
+use Rattle.packet.proofs.Facts.{room-of}
 use Rattle.state.specs.declared.Registers.{Registers}
 use Rattle.state.specs.View.{Ready}
 
@@ -45,7 +46,7 @@ module _ (r : Registers) (m : List (List Page)) (w : Ready r m) (h : 0 < r .tx .
     row-few = omega (arith, ap length p, w .well .pages .atMost head)
 
     pub room : (mem : List ℕ) → length mem ≡ 6144 → (end : ℕ) → end ≤ 256 * length (used row) → Room end row mem
-    room mem e end b = record { whole = e; below = λ q x. w .well .pages .within head q (sym (ap (member q) p) ∙ x); within = b }
+    room mem e end b = room-of end row (getD (pagesOf m) head []) mem p e (w .well .pages .within head) (omega (arith, b, ap length p))
 
 -- What a usable count is.
 pub usable-fits : (count pages : ℕ) → usable count pages ≡ true → (12 ≤ count) × (count ≤ 256 * pages)

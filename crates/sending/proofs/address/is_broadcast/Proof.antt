@@ -6,6 +6,7 @@ use native.Mathlib.Omega.{arith}
 use Rattle.rules.specs.Packet.{getBytes}
 use Rattle.rules.specs.Receive.{broadcast, sameBytes}
 use Rattle.store.specs.Views.{used}
+use Rattle.packet.proofs.Facts.{room-less}
 use Rattle.sending.proofs.Loops.{ones, ones-on, ones-not}
 use Rattle.sending.proofs.address.is_broadcast.Statement.{statement}
 use Rattle.sending.proofs.address.is_broadcast.Tie as tie
@@ -22,9 +23,7 @@ unfolding broadcast
 loop-holds c = (search needs, refl)
 
 read-byte-requires : tie.Need-read-byte-requires Inv-loop μ-loop
-read-byte-requires c κs =
-    let r = c .before .before .before .pre in
-    record { whole = r .whole; below = r .below; within = omega (arith, r .within, c .loop-test .taken) }
+read-byte-requires c κs = room-less (c .before .before .before .pre) _ (omega (arith, c .loop-test .taken))
 
 returns : tie.Need-returns Inv-loop μ-loop
 returns c =

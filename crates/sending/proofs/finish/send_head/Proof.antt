@@ -2,13 +2,14 @@
 use borrow.Author.Needs.{needs}
 use mathlib.Core.Path.{_≡_, refl, ap, ap₂, sym, subst, _∙_}
 use mathlib.Core.Bool.{Bool, true, false, not, _&&_}
-use mathlib.Core.List.{[]}
+use mathlib.Core.List.{List}
 use Prim.Native.Nat.{ℕ, _*_, _≤_, _<_}
 use native.Mathlib.Omega.{arith}
 use borrow.Author.Tests.{not-true, not-false, leb-false}
 use lib.Dec.{leb}
 use lib.ListN.{length, getD}
 use Rattle.rules.specs.Bits.{bit}
+use Rattle.rules.specs.Chip.{Chip, pagesAt}
 use Rattle.rules.specs.Answers.{Turn, Step}
 use Rattle.rules.specs.Packet.{getBytes}
 use Rattle.rules.specs.Send.{usable, byteCount, good, autoRelease}
@@ -27,49 +28,13 @@ use Rattle.sending.proofs.Made.{sent-view, same-retired, refuses}
 use Rattle.sending.proofs.finish.send_head.Statement.{statement}
 use Rattle.sending.proofs.finish.send_head.Tie as tie
 
+-- The places on the way, and what is at hand there.
 abbrev start : tie.After-row-of → tie.Start
 start o = o .before .before .before .before .before .before
 
 abbrev row-at : tie.After-is-usable → tie.After-row-of
 row-at i = i .before .before .before .before
 
--- the head's pages
-paged : (o : tie.After-row-of) → used (o .row-of .result) ≡ getD (pagesOf (start o .args .map)) (getD (entries (start o .args .r .tx)) 0 0) []
-paged o = o .row-of .ensures ∙ ap (λ (k : ℕ). getD (pagesOf (start o .args .map)) k []) (o .before .head .ensures)
-
-roomy : (o : tie.After-row-of) (end : ℕ) → end ≤ 256 * length (used (o .row-of .result)) → Room end (o .row-of .result) (start o .args .memory .now)
-roomy o end h =
-    let s = start o in
-    room (s .args .r) (s .args .map) (s .pre .0) (s .pre .3) (o .row-of .result) (paged o) (s .args .memory .now) (s .pre .1) end h
-
--- its byte count, and whether it is usable
-counted : (d : tie.After-read-word) → let o = d .before .before in d .read-word .result ≡ byteCount (used (o .row-of .result)) (start o .args .memory .now)
-unfolding byteCount
-counted d =
-    let o = d .before .before in
-    d .read-word .ensures ∙ value-word 2 (used (o .row-of .result)) (start o .args .memory .now)
-
-judged : (i : tie.After-is-usable) → i .is-usable .result ≡ usable (i .before .before .read-word .result) (length (used (row-at i .row-of .result)))
-judged i = i .is-usable .ensures ∙ ap (usable (i .before .before .read-word .result)) (i .before .pages-in .ensures)
-
-fitting : (e : tie.Else1) → let i = e .before in (12 ≤ i .before .before .read-word .result) × (i .before .before .read-word .result ≤ 256 * length (used (row-at i .row-of .result)))
-fitting e =
-    let i = e .before in
-    usable-fits _ _ (sym (judged i) ∙ not-false (i .is-usable .result) (e .if1 .left))
-
-read-word-requires : tie.Need-read-word-requires
-read-word-requires c κs =
-    let o = c .before in
-    let s = start o in
-    roomy o 4 (omega (arith, row-some (s .args .r) (s .args .map) (s .pre .0) (s .pre .3) (o .row-of .result) (paged o)))
-
-is-usable-requires : tie.Need-is-usable-requires
-is-usable-requires c κs =
-    let o = c .before .before .before in
-    let s = start o in
-    omega (arith, c .pages-in .ensures, row-few (s .args .r) (s .args .map) (s .pre .0) (s .pre .3) (o .row-of .result) (paged o))
-
--- the places on the way to the end
 abbrev else-at : tie.After-is-full → tie.Else1
 else-at f = f .before .before .before
 
@@ -79,34 +44,83 @@ full-at p = p .before .before .before .before
 abbrev put-at : tie.After-address-bits-arg → tie.After-put-out
 put-at a = a .before .before .before
 
-abbrev bits-at : tie.After-write-status-arg → tie.After-address-bits
-bits-at w = w .before .before
+abbrev pages : tie.After-row-of → List ℕ
+pages o = used (o .row-of .result)
 
-usable-at : (e : tie.Else1) → let i = e .before in usable (i .before .before .read-word .result) (length (used (row-at i .row-of .result))) ≡ true
-usable-at e = let i = e .before in sym (judged i) ∙ not-false (i .is-usable .result) (e .if1 .left)
+abbrev memory : tie.After-row-of → List ℕ
+memory o = start o .args .memory .now
 
--- whether the packet is released, and whether completion is full
-retired : (b : tie.After-is-released) → let s = start (row-at (b .before .before .before)) in
-    b .is-released .result ≡ autoRelease (good (s .args .r .tcr) (s .args .s .outcome)) (registersOf (s .args .r))
+abbrev chip : tie.Start → Chip
+chip s = view (s .args .r) (s .args .map) (s .args .memory .now)
+
+abbrev count : tie.After-is-usable → ℕ
+count i = i .before .before .read-word .result
+
+-- Is the packet to be released?
+abbrev releasing : tie.Start → Bool
+releasing s = autoRelease (good (s .args .r .tcr) (s .args .s .outcome)) (registersOf (s .args .r))
+
+-- The head's pages: a packet has 1 to 8 of them.
+paged : (o : tie.After-row-of) → pages o ≡ pagesAt (chip (start o)) (getD (entries (start o .args .r .tx)) 0 0)
+paged o = o .row-of .ensures ∙ ap (pagesAt (chip (start o))) (o .before .head .ensures)
+
+few : (o : tie.After-row-of) → (1 ≤ length (pages o)) × (length (pages o) ≤ 8)
+few o =
+    let s = start o in
+    (row-some (s .args .r) (s .args .map) (s .pre .0) (s .pre .3) (o .row-of .result) (paged o), row-few (s .args .r) (s .args .map) (s .pre .0) (s .pre .3) (o .row-of .result) (paged o))
+
+roomy : (o : tie.After-row-of) (end : ℕ) → end ≤ 256 * length (pages o) → Room end (o .row-of .result) (memory o)
+roomy o end h =
+    let s = start o in
+    room (s .args .r) (s .args .map) (s .pre .0) (s .pre .3) (o .row-of .result) (paged o) (memory o) (s .pre .1) end h
+
+-- Its byte count, and whether it is usable.
+counted : (d : tie.After-read-word) → let o = d .before .before in d .read-word .result ≡ byteCount (pages o) (memory o)
+unfolding byteCount
+counted d = let o = d .before .before in d .read-word .ensures ∙ value-word 2 (pages o) (memory o)
+
+judged : (i : tie.After-is-usable) → i .is-usable .result ≡ usable (count i) (length (pages (row-at i)))
+judged i = i .is-usable .ensures ∙ ap (usable (count i)) (i .before .pages-in .ensures)
+
+passed : (e : tie.Else1) → let i = e .before in usable (count i) (length (pages (row-at i))) ≡ true
+passed e = let i = e .before in sym (judged i) ∙ not-false (i .is-usable .result) (e .if1 .left)
+
+fitting : (e : tie.Else1) → let i = e .before in (12 ≤ count i) × (count i ≤ 256 * length (pages (row-at i)))
+fitting e = usable-fits _ _ (passed e)
+
+-- Whether the packet is released, and whether completion is full.
+retired : (b : tie.After-is-released) → b .is-released .result ≡ releasing (start (row-at (b .before .before .before)))
 unfolding autoRelease
 retired b =
     let s = start (row-at (b .before .before .before)) in
     b .is-released .ensures ∙ ap (λ (g : Bool). g && bit 11 (s .args .r .control)) (b .before .is-good .ensures)
 
 filled : (f : tie.After-is-full) → let s = start (row-at (else-at f .before)) in
-    f .is-full .result ≡ (not (autoRelease (good (s .args .r .tcr) (s .args .s .outcome)) (registersOf (s .args .r))) && leb (length (pagesOf (s .args .map))) (length (entries (s .args .r .done))))
+    f .is-full .result ≡ (not (releasing s) && leb (length (pagesOf (s .args .map))) (length (entries (s .args .r .done))))
 filled f =
     let s = start (row-at (else-at f .before)) in
     let n = entries-length (s .args .r .done) (s .pre .0 .queues .done) in
     f .is-full .ensures ∙ ap₂ (λ (b t : Bool). not b && t) (retired (f .before)) (ap₂ leb (sym (s .pre .0 .well .count)) (sym n))
+
+open-done : (p : tie.After-put-out) → let f = full-at p in f .before .is-released .result ≡ false → start (row-at (else-at f .before)) .args .r .done .count < 24
+open-done p e =
+    let f = full-at p in
+    let n = start (row-at (else-at f .before)) .args .r .done .count in
+    leb-false 24 n (sym (ap (λ (b : Bool). not b && leb 24 n) e) ∙ sym (f .is-full .ensures) ∙ p .before .before .before .if2 .left)
+
+read-word-requires : tie.Need-read-word-requires
+read-word-requires c κs = roomy (c .before) 4 (omega (arith, few (c .before)))
+
+is-usable-requires : tie.Need-is-usable-requires
+is-usable-requires c κs = omega (arith, c .pages-in .ensures, few (c .before .before .before))
 
 returns : tie.Need-returns
 returns c =
     let i = c .before .before in
     let o = row-at i in
     let s = start o in
-    refuses (s .args .r) (s .args .map) (s .args .memory .now) (s .args .out .now) _ 13 answer.BadCount _ (s .pre .0)
-    (bad-count (sendOf (s .args .s)) _ _ (view (s .args .r) (s .args .map) (s .args .memory .now)) (s .args .out .now) _ _ (paged o) (counted (i .before .before))
+    refuses (s .args .r) (s .args .map) (memory o) (s .args .out .now) _ 13 answer.BadCount _ (s .pre .0)
+    (bad-count (sendOf (s .args .s)) _ _ (chip s) (s .args .out .now) _ _ (paged o) (counted (i .before .before))
     (sym (judged i) ∙ not-true (i .is-usable .result) (c .before .if1 .taken))) refl (c .make-stepped .ensures)
 
 returns-2 : tie.Need-returns-2
@@ -115,17 +129,16 @@ returns-2 c =
     let i = else-at f .before in
     let o = row-at i in
     let s = start o in
-    refuses (s .args .r) (s .args .map) (s .args .memory .now) (s .args .out .now) _ 14 answer.CompletionFull _ (s .pre .0)
-    (completion-full (sendOf (s .args .s)) _ _ (view (s .args .r) (s .args .map) (s .args .memory .now)) (s .args .out .now) _ _ (paged o) (counted (i .before .before))
-    (usable-at (else-at f)) (sym (filled f) ∙ c .before .if2 .taken)) refl (c .make-stepped2 .ensures)
+    refuses (s .args .r) (s .args .map) (memory o) (s .args .out .now) _ 14 answer.CompletionFull _ (s .pre .0)
+    (completion-full (sendOf (s .args .s)) _ _ (chip s) (s .args .out .now) _ _ (paged o) (counted (i .before .before))
+    (passed (else-at f)) (sym (filled f) ∙ c .before .if2 .taken)) refl (c .make-stepped2 .ensures)
 
 put-out-requires : tie.Need-put-out-requires
 put-out-requires c κs =
     let e = else-at (c .before .before .before) in
     let o = row-at (e .before) in
-    let s = start o in
     let h = fitting e in
-    (h .0, omega (arith, h .1, row-few (s .args .r) (s .args .map) (s .pre .0) (s .pre .3) (o .row-of .result) (paged o)), s .pre .2, roomy o _ (h .1))
+    (h .0, omega (arith, h .1, few o), start o .pre .2, roomy o _ (h .1))
 
 address-bits-requires : tie.Need-address-bits-requires
 address-bits-requires c κs =
@@ -134,15 +147,8 @@ address-bits-requires c κs =
 
 write-status-requires : tie.Need-write-status-requires
 write-status-requires c κs =
-    let e = else-at (full-at (put-at (bits-at c .before))) in
+    let e = else-at (full-at (put-at (c .before .before .before))) in
     roomy (row-at (e .before)) 2 (omega (arith, fitting e))
-
--- completion has room for a packet that is not released
-open-done : (p : tie.After-put-out) → let f = full-at p in f .before .is-released .result ≡ false → start (row-at (else-at f .before)) .args .r .done .count < 24
-open-done p e =
-    let f = full-at p in
-    let n = start (row-at (else-at f .before)) .args .r .done .count in
-    leb-false 24 n (sym (ap (λ (b : Bool). not b && leb 24 n) e) ∙ sym (f .is-full .ensures) ∙ p .before .before .before .if2 .left)
 
 retire-requires : tie.Need-retire-requires
 retire-requires c κs =
@@ -168,14 +174,12 @@ returns-3 c =
     let e = else-at f in
     let o = row-at (e .before) in
     let s = start o in
-    let v = view (s .args .r) (s .args .map) (s .args .memory .now) in
-    let pages = used (o .row-of .result) in
     let mem = w .write-status .last .0 in
     let t = subst (λ (g : Bool). Sent g (sendOf (s .args .s)) (b .address-bits .result) (s .args .r) (n .sent-registers .result)) (f .before .before .is-good .ensures) (n .sent-registers .ensures) in
-    let made = sent-view _ _ _ (s .args .r) (n .sent-registers .result) (s .args .map) pages (s .args .memory .now) mem
-    (getBytes 6 4 pages (s .args .memory .now)) t (b .address-bits .ensures .0) (w .write-status .ensures) in
+    let made = sent-view _ _ _ (s .args .r) (n .sent-registers .result) (s .args .map) (pages o) (memory o) mem
+    (getBytes 6 4 (pages o) (memory o)) t (b .address-bits .ensures .0) (w .write-status .ensures) in
     subst (λ (z : Turn). Sends z mem (p .put-out .last .1 .1 .1 .1 .0) (c .retire .result))
-    (sym (finishes (sendOf (s .args .s)) _ _ v (s .args .out .now) pages _ (paged o) (counted (e .before .before .before)) (usable-at e) (sym (filled f) ∙ p .before .before .before .if2 .left)))
+    (sym (finishes (sendOf (s .args .s)) _ _ (chip s) (s .args .out .now) (pages o) _ (paged o) (counted (e .before .before .before)) (passed e) (sym (filled f) ∙ p .before .before .before .if2 .left)))
     (record {
       step = subst (λ (z : Step). Makes z mem (c .retire .result)) (same-retired (p .put-out .ensures .value) (retired (f .before)) (o .before .head .ensures) made) (c .retire .ensures mem);
       output = p .put-out .ensures .output;
