@@ -4,11 +4,14 @@ mod accesses; // accesses.rt: accesses to the sixteen I/O addresses
 mod reads; // reads.rt: reads of what an access reaches
 mod writes; // writes.rt: writes to what an access reaches
 mod sends; // sends.rt: finished sends
+mod entries; // entries.rt: power-up, and the interrupt line
 mod order; // order.rt: is a record in order, refusal 16
 
 pub use accesses::Request;
 pub use accesses::access;
 pub use accesses::accessed;
+pub use entries::line;
+pub use entries::power_up;
 pub use order::in_order;
 pub use sends::finished;
 pub use sends::send;
