@@ -1,0 +1,4 @@
+-- Laws that the proofs of the functions cite.
+pub mod Hex
+pub mod OfKind
+pub mod Answered
