@@ -1,0 +1,5 @@
+-- What records stand for, what gathering wire bytes promises, and the digits of a printed line.
+pub mod Event
+pub mod Gathers
+pub mod Decimal
+pub mod Word

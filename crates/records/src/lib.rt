@@ -1,0 +1,10 @@
+// The bench program's records and lines: what a record asks for, the wire bytes gathered so far, and the line that is printed.
+mod event; // event.rt: a record's event
+mod gather; // gather.rt: wire bytes gathered
+mod line; // line.rt: the printed line
+
+pub use event::Event;
+pub use event::event_of;
+pub use gather::Gathering;
+pub use gather::gathered;
+pub use line::line_at;
