@@ -1,0 +1,2 @@
+-- What one step of the bench promises.
+pub mod Turns

@@ -1,0 +1,24 @@
+-- What one step of the bench promises: the rules' answer, on a chip that is in order again.
+use mathlib.Core.Path.{_≡_}
+use mathlib.Core.List.{List}
+use Prim.Native.Nat.{ℕ, _≤_}
+use lib.ListN.{length, take}
+use Rattle.rules.specs.Bench.{Answered}
+use Rattle.store.specs.declared.Page.{Page}
+use Rattle.state.specs.declared.Registers.{Registers}
+use Rattle.state.specs.declared.Stepped.{Stepped}
+use Rattle.state.specs.View.{view, replyOf}
+use Rattle.state.specs.Promise.{InOrder}
+use Rattle.records.specs.Gathers.{holding}
+
+-- a chip in order, and wire bytes within their buffer
+pub record Held (r : Registers) (m : List (List Page)) (mem wire : List ℕ) (have : ℕ) : Type 0 where
+  pub chip : InOrder r m mem
+  pub room : length wire ≡ 2048
+  pub few : have ≤ 2048
+
+-- x is returned, and memory, wire bytes and output are then these
+pub record Turns (a : Answered) (x : Stepped) (mem wire : List ℕ) (have : ℕ) (out : List ℕ) : Type 0 where
+  pub reply : replyOf (x .answer) ≡ a .reply
+  pub bench : holding (view (x .registers) (x .pages) mem) (take have wire) out ≡ a .bench
+  pub held : Held (x .registers) (x .pages) mem wire have

@@ -1,0 +1,66 @@
+// One step of the bench: a record, and what becomes of it.
+use chip::Request;
+use records::{Event, Gathering};
+use registers::Width;
+use state::{Answer, Registers, Stepped};
+use store::Page;
+ghost use lib.ListN.{take};
+ghost use Rattle.rules.specs.Bench as rules;
+ghost use Rattle.records.specs.Gathers.{holding};
+ghost use Rattle.state.specs.View.{view};
+ghost use Rattle.serving.specs.Turns.{Held, Turns};
+
+// Wire bytes join those gathered, or are refused.
+fn gather_more(
+    r: Registers,
+    map: [[Page; 8]; 24],
+    wire: &mut [u8],
+    have: &mut usize,
+    bytes: [u8; 8],
+    count: u8,
+) -> Stepped {
+    let gathering = records::gathered(wire, *have, bytes, count);
+    match gathering {
+        Gathering::More(n) => {
+            *have = n;
+            state::make_stepped(Answer::Done(0), r, map)
+        }
+        Gathering::Refused => state::make_stepped(Answer::OutsideLimits, r, map),
+    }
+}
+
+// The next step, of registers, page map, memory, gathered wire bytes and output buffer.
+pub fn turned(
+    r: Registers,
+    map: [[Page; 8]; 24],
+    memory: &mut [u8],
+    wire: &mut [u8],
+    have: &mut usize,
+    out: &mut [u8],
+    bytes: [u8; 8],
+) -> Stepped
+    requires { ⌜ Held r map (now memory) (now wire) (now have) ⌝ }
+    ensures { λ x. ⌜ Turns (rules.answer (rules.eventOf bytes) (holding (view r map (now (memory .entry))) (take (now (have .entry)) (now (wire .entry))) (now (out .entry)))) x (now (memory .exit)) (now (wire .exit)) (now (have .exit)) (now (out .exit)) ⌝ }
+{
+    let event = records::event_of(bytes);
+    match event {
+        Event::ReadByte(offset) => {
+            chip::accessed(r, map, memory, Request::Read(Width::Byte, offset))
+        }
+        Event::ReadWord(offset) => {
+            chip::accessed(r, map, memory, Request::Read(Width::Word, offset))
+        }
+        Event::WriteByte(offset, value) => {
+            chip::accessed(r, map, memory, Request::Write(Width::Byte, offset, value))
+        }
+        Event::WriteWord(offset, value) => {
+            chip::accessed(r, map, memory, Request::Write(Width::Word, offset, value))
+        }
+        Event::Wire(count) => gather_more(r, map, wire, have, bytes, count),
+        Event::Ends(_, _) => state::make_stepped(Answer::CutShort, r, map),
+        Event::Send(outcome, collisions, deferral) => {
+            chip::finished(r, map, memory, out, outcome, collisions, deferral)
+        }
+        Event::Unknown => state::make_stepped(Answer::CutShort, r, map),
+    }
+}
