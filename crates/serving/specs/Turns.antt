@@ -2,8 +2,9 @@
 use mathlib.Core.Path.{_≡_}
 use mathlib.Core.List.{List}
 use Prim.Native.Nat.{ℕ, _≤_}
-use lib.ListN.{length, take}
-use Rattle.rules.specs.Bench.{Answered}
+use lib.ListN.{length, take, drop}
+use Rattle.rules.specs.Chip.{Chip}
+use Rattle.rules.specs.Bench.{Answered, gather}
 use Rattle.store.specs.declared.Page.{Page}
 use Rattle.state.specs.declared.Registers.{Registers}
 use Rattle.state.specs.declared.Stepped.{Stepped}
@@ -22,3 +23,11 @@ pub record Turns (a : Answered) (x : Stepped) (mem wire : List ℕ) (have : ℕ)
   pub reply : replyOf (x .answer) ≡ a .reply
   pub bench : holding (view (x .registers) (x .pages) mem) (take have wire) out ≡ a .bench
   pub held : Held (x .registers) (x .pages) mem wire have
+
+-- wire bytes are gathered: registers and map stay, and for any chip beside them the rules' `gather` says this
+pub record Gathered (r : Registers) (m : List (List Page)) (wire : List ℕ) (have : ℕ) (bytes : List ℕ) (count : ℕ) (x : Stepped) (wire′ : List ℕ) (have′ : ℕ) : Type 0 where
+  pub registers : x .registers ≡ r
+  pub pages : x .pages ≡ m
+  pub rule : (c : Chip) (out : List ℕ) → gather count (drop 2 bytes) (holding c (take have wire) out) ≡ record { reply = replyOf (x .answer); bench = holding c (take have′ wire′) out }
+  pub room : length wire′ ≡ 2048
+  pub few : have′ ≤ 2048

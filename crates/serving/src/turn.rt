@@ -4,11 +4,13 @@ use records::{Event, Gathering};
 use registers::Width;
 use state::{Answer, Registers, Stepped};
 use store::Page;
-ghost use lib.ListN.{take};
+ghost use mathlib.Core.Path.{_≡_};
+ghost use Prim.Native.Nat.{_≤_};
+ghost use lib.ListN.{length, take};
 ghost use Rattle.rules.specs.Bench as rules;
 ghost use Rattle.records.specs.Gathers.{holding};
 ghost use Rattle.state.specs.View.{view};
-ghost use Rattle.serving.specs.Turns.{Held, Turns};
+ghost use Rattle.serving.specs.Turns.{Held, Turns, Gathered};
 
 // Wire bytes join those gathered, or are refused.
 fn gather_more(
@@ -18,7 +20,10 @@ fn gather_more(
     have: &mut usize,
     bytes: [u8; 8],
     count: u8,
-) -> Stepped {
+) -> Stepped
+    requires { ⌜ (length (now wire) ≡ 2048) × (now have ≤ 2048) ⌝ }
+    ensures { λ x. ⌜ Gathered r map (now (wire .entry)) (now (have .entry)) bytes count x (now (wire .exit)) (now (have .exit)) ⌝ }
+{
     let gathering = records::gathered(wire, *have, bytes, count);
     match gathering {
         Gathering::More(n) => {

@@ -1,0 +1,102 @@
+-- From what the chip's entries promise to one step of the bench.
+use mathlib.Core.Path.{_≡_, refl, ap, sym, _∙_}
+use mathlib.Core.Bool.{Bool, true, false, cond}
+use mathlib.Core.List.{List, []}
+use Prim.Native.Nat.{ℕ, _≤_}
+use native.Mathlib.Omega.{arith}
+use lib.ListN.{length, take, drop}
+use Rattle.rules.specs.Chip.{Chip}
+use Rattle.rules.specs.Answers.{Turn, leaving, refused}
+use Rattle.rules.specs.WellFormed.{fit}
+use Rattle.rules.specs.Registers.{Access}
+use Rattle.rules.specs.Receive.{Frame}
+use Rattle.rules.specs.Send.{Send}
+use Rattle.rules.specs.Step.{Input, driver, frame, sent, stepOn, stepOf, step}
+use Rattle.rules.specs.Bench as rules
+use Rattle.store.specs.declared.Page.{Page}
+use Rattle.state.specs.declared.Registers.{Registers}
+use Rattle.state.specs.declared.Stepped.{Stepped}
+use Rattle.state.specs.declared.Answer.the-variants.{CutShort}
+use Rattle.state.specs.View.{view, replyOf}
+use Rattle.state.specs.Promise.{InOrder, Right}
+use Rattle.records.specs.declared.event.Event.{Event}
+use Rattle.records.specs.Event.{meant}
+use Rattle.records.specs.Gathers.{holding}
+use Rattle.serving.specs.Turns.{Held, Turns, Gathered}
+
+-- Accesses and frames do not look at the output buffer, and leave it.
+beside-output : (i : Input) (c : Chip) (out : List ℕ) → ((o : List ℕ) → stepOn i c o ≡ leaving o (record { reply = stepOn i c [] .reply; chip = stepOn i c [] .chip }))
+    → step i c out ≡ leaving out (record { reply = step i c [] .reply; chip = step i c [] .chip })
+unfolding stepOf
+beside-output i c out h = go (fit 24 c)
+  where
+    go : (b : Bool) → cond b (stepOn i c out) (refused 16 c out) ≡ leaving out (record { reply = cond b (stepOn i c []) (refused 16 c []) .reply; chip = cond b (stepOn i c []) (refused 16 c []) .chip })
+    go true = h out
+    go false = refl
+
+access-beside : (a : Access) (c : Chip) (out : List ℕ) → step (driver a) c out ≡ leaving out (record { reply = step (driver a) c [] .reply; chip = step (driver a) c [] .chip })
+unfolding stepOn
+access-beside a c out = beside-output (driver a) c out (λ o. refl)
+
+frame-beside : (f : Frame) (c : Chip) (out : List ℕ) → step (frame f) c out ≡ leaving out (record { reply = step (frame f) c [] .reply; chip = step (frame f) c [] .chip })
+unfolding stepOn
+frame-beside f c out = beside-output (frame f) c out (λ o. refl)
+
+module _ (r : Registers) (m : List (List Page)) (mem wire : List ℕ) (have : ℕ) (out : List ℕ) (h : Held r m mem wire have) where
+  bench : rules.Bench
+  bench = holding (view r m mem) (take have wire) out
+
+  -- a step of the chip, after which so many wire bytes are held
+  stepping : (i : Input) (left : ℕ) (x : Stepped) (mem′ out′ : List ℕ) → left ≤ 2048 → Right (step i (view r m mem) out) x mem′ out′
+      → Turns (rules.stepped i (take left wire) (holding (view r m mem) (take have wire) out)) x mem′ wire left out′
+  stepping i left x mem′ out′ few p = record {
+    reply = p .reply;
+    bench = λ j. holding (p .chip j) (take left wire) (p .output j);
+    held = record { chip = p .ready; room = h .room; few = few };
+  }
+
+  -- the same of a step that was told with an empty output buffer
+  with-output : (i : Input) (x : Stepped) (mem′ : List ℕ) → step i (view r m mem) out ≡ leaving out (record { reply = step i (view r m mem) [] .reply; chip = step i (view r m mem) [] .chip })
+      → Right (step i (view r m mem) []) x mem′ [] → Right (step i (view r m mem) out) x mem′ out
+  with-output i x mem′ e p = rw e (record { chip = p .chip; reply = p .reply; output = refl; ready = p .ready })
+
+  pub access-turns : (a : Access) (x : Stepped) (mem′ : List ℕ) → Right (step (driver a) (view r m mem) []) x mem′ []
+      → Turns (rules.answer (rules.access a) (holding (view r m mem) (take have wire) out)) x mem′ wire have out
+  unfolding rules.answer
+  access-turns a x mem′ p = stepping (driver a) have x mem′ out (h .few) (with-output (driver a) x mem′ (access-beside a (view r m mem) out) p)
+
+  pub frame-turns : (crc align : Bool) (x : Stepped) (mem′ : List ℕ)
+      → Right (step (frame (record { bytes = take have wire; badCrc = crc; alignment = align })) (view r m mem) []) x mem′ []
+      → Turns (rules.answer (rules.frameEnds crc align) (holding (view r m mem) (take have wire) out)) x mem′ wire 0 out
+  unfolding rules.answer
+  frame-turns crc align x mem′ p = stepping _ 0 x mem′ out (omega arith) (with-output _ x mem′ (frame-beside _ (view r m mem) out) p)
+
+  pub send-turns : (s : Send) (x : Stepped) (mem′ out′ : List ℕ) → Right (step (sent s) (view r m mem) out) x mem′ out′
+      → Turns (rules.answer (rules.send s) (holding (view r m mem) (take have wire) out)) x mem′ wire have out′
+  unfolding rules.answer
+  send-turns s x mem′ out′ p = stepping (sent s) have x mem′ out′ (h .few) p
+
+  pub unknown-turns : (x : Stepped) → x ≡ record { answer = CutShort; registers = r; pages = m } → Turns (rules.answer rules.unknown (holding (view r m mem) (take have wire) out)) x mem wire have out
+  unfolding rules.answer
+  unknown-turns x e = rw e (record { reply = refl; bench = refl; held = h })
+
+  pub wire-turns : (count : ℕ) (bytes : List ℕ) (x : Stepped) (wire′ : List ℕ) (have′ : ℕ) → Gathered r m wire have bytes count x wire′ have′
+      → Turns (rules.answer (rules.wire count (drop 2 bytes)) (holding (view r m mem) (take have wire) out)) x mem wire′ have′ out
+  unfolding rules.answer
+  wire-turns count bytes x wire′ have′ g =
+      let e = g .rule (view r m mem) out in
+      let v : view (x .registers) (x .pages) mem ≡ view r m mem = λ j. view (g .registers j) (g .pages j) mem in
+      rw e (record {
+        reply = refl;
+        bench = ap (λ (c : Chip). holding c (take have′ wire′) out) v;
+        held = record { chip = λ-order (g .registers) (g .pages); room = g .room; few = g .few };
+      })
+    where
+      λ-order : {r′ : Registers} {m′ : List (List Page)} → r′ ≡ r → m′ ≡ m → InOrder r′ m′ mem
+      λ-order p q = rw (p, q) (h .chip)
+
+-- The event at hand is the record's.
+pub as-told : {e k : Event} (bytes : List ℕ) (b : rules.Bench) {x : Stepped} {mem wire : List ℕ} {have : ℕ} {out : List ℕ} → meant e bytes ≡ rules.eventOf bytes → e ≡ k
+    → Turns (rules.answer (meant k bytes) b) x mem wire have out → Turns (rules.answer (rules.eventOf bytes) b) x mem wire have out
+as-told bytes b {x} {mem} {wire} {have} {out} p q t =
+    rw (sym p ∙ ap (λ (k : Event). meant k bytes) q) t
