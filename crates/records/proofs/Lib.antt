@@ -1,4 +1,3 @@
 -- Laws that the proofs of the functions cite.
 pub mod Hex
-pub mod OfKind
 pub mod Answered
