@@ -18,7 +18,7 @@ pub fn place_of(row: [Page; 8], at: Address) -> usize
     ensures { λ r. ⌜ (r ≡ place (used row) (at .0)) × (r + (256 - at .0 % 256) ≤ 6144) ⌝ }
 {
     let a = at.0 as usize;
-    store::nth(row, a / 256).0 as usize * 256 + a % 256
+    store::nth_page(row, a / 256).0 as usize * 256 + a % 256
 }
 
 pub fn read_byte(memory: &[u8], row: [Page; 8], at: Address) -> u8

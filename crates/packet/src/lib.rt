@@ -1,5 +1,7 @@
 // A packet's bytes in memory. Packet address a lies in page a / 256 of the packet's row, so adjacent addresses may lie in pages that are not adjacent.
 mod access; // access.rt: a byte or a word at an address
+mod fill; // fill.rt: a run of bytes, page by page
+mod frame; // frame.rt: a whole frame
 
 pub use access::place_of;
 pub use access::read_byte;
@@ -7,3 +9,10 @@ pub use access::read_word;
 pub use access::write_byte;
 pub use access::write_status;
 pub use access::write_word;
+pub use fill::copy_out;
+pub use fill::copy_page;
+pub use fill::fill_page;
+pub use fill::fill_part;
+pub use frame::store_data;
+pub use frame::store_frame;
+pub use frame::write_trailer;

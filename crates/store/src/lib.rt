@@ -21,9 +21,9 @@ pub use map::page_at;
 pub use map::page_count;
 pub use map::released;
 pub use map::row_of;
-pub use row::count;
 pub use row::holds;
-pub use row::nth;
+pub use row::nth_page;
+pub use row::pages_in;
 pub use row::unused;
 
 // A packet number is never a page number, nor is either an address within a packet: `released(map, Page(3))` is a type error.

@@ -1,9 +1,9 @@
 // The page map: for each packet number its row of pages.
 use crate::Packet;
 use crate::Page;
-use crate::row::count;
 use crate::row::holds;
-use crate::row::nth;
+use crate::row::nth_page;
+use crate::row::pages_in;
 use crate::row::unused;
 ghost use mathlib.Core.Path.{_≡_};
 ghost use mathlib.Core.List.{List, [], _∷_};
@@ -56,7 +56,7 @@ pub fn allocated(map: [[Page; 8]; 24], packet: Packet) -> bool
 pub fn page_count(map: [[Page; 8]; 24], packet: Packet) -> usize
     ensures { λ r. ⌜ r ≡ length (getD (pagesOf map) (packet .0) []) ⌝ }
 {
-    count(row_of(map, packet))
+    pages_in(row_of(map, packet))
 }
 
 // Page k of the packet.
@@ -64,7 +64,7 @@ pub fn page_at(map: [[Page; 8]; 24], packet: Packet, k: usize) -> Page
     requires { ⌜ k < length (getD (pagesOf map) (packet .0) []) ⌝ }
     ensures { λ r. ⌜ r .0 ≡ getD (getD (pagesOf map) (packet .0) []) k 0 ⌝ }
 {
-    nth(row_of(map, packet), k)
+    nth_page(row_of(map, packet), k)
 }
 
 // The lowest number with no pages, and 24 where each has some.

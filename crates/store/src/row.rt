@@ -34,7 +34,7 @@ pub fn unused(row: [Page; 8]) -> bool
 }
 
 // How many pages the row has.
-pub fn count(row: [Page; 8]) -> usize
+pub fn pages_in(row: [Page; 8]) -> usize
     ensures { λ r. ⌜ r ≡ length (used row) ⌝ }
 {
     let mut j = 0;
@@ -49,7 +49,7 @@ pub fn count(row: [Page; 8]) -> usize
 }
 
 // Page k of the row.
-pub fn nth(row: [Page; 8], k: usize) -> Page
+pub fn nth_page(row: [Page; 8], k: usize) -> Page
     requires { ⌜ k < length (used row) ⌝ }
     ensures { λ r. ⌜ r .0 ≡ getD (used row) k 0 ⌝ }
 {

@@ -1,6 +1,6 @@
 use borrow.Author.Needs.{needs}
-use mathlib.Core.Path.{_≡_, ap, _∙_}
-use Prim.Native.Nat.{ℕ, _+_, _*_, _/_, _%_}
+use mathlib.Core.Path.{ap}
+use Prim.Native.Nat.{ℕ, _+_, _*_, _%_}
 use native.Mathlib.Omega.{arith}
 use Rattle.rules.specs.Packet.{place}
 use Rattle.lists.specs.Bytes.{place-room}
@@ -13,7 +13,7 @@ unfolding place
 returns c =
     let s = c .before .before .before in
     let a = s .args .at .0 in
-    let e = ap (λ (p : ℕ). p * 256 + a % 256) (c .before .nth .ensures) in
+    let e = ap (λ (p : ℕ). p * 256 + a % 256) (c .before .nth-page .ensures) in
     (e, omega (arith, e, place-room 24 (used (s .args .row)) a (s .pre .1) (s .pre .0)))
 
 pub place-of-spec : {M : Type 1} → statement M

@@ -1,5 +1,5 @@
 use borrow.Author.Needs.{needs}
-use mathlib.Core.Path.{_≡_, ap, sym, _∙_}
+use mathlib.Core.Path.{ap, sym, _∙_}
 use lib.ListN.{getD}
 use Prim.Native.Nat.{ℕ}
 use Rattle.lists.specs.Bytes.{value-one}

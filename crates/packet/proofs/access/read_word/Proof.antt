@@ -2,14 +2,14 @@ use borrow.Author.Needs.{needs}
 use native.Mathlib.Omega.{arith}
 use Rattle.lists.specs.Bytes.{value-two}
 use Rattle.store.specs.Views.{used}
-use Rattle.store.proofs.Facts.{used-length}
+use Rattle.packet.proofs.Facts.{room-small}
 use Rattle.packet.proofs.access.read_word.Statement.{statement}
 use Rattle.packet.proofs.access.read_word.Tie as tie
 
 add-result : tie.Need-add-result
 add-result c =
     let s = c .before .before .before in
-    omega (arith, used-length (s .args .row), s .good .1 .0 .1 .0 .1, s .pre .within)
+    omega (arith, room-small (s .pre) (s .good .1 .0 .1 .0 .1))
 
 returns : tie.Need-returns
 returns c =

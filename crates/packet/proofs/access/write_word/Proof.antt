@@ -6,14 +6,14 @@ use native.Mathlib.Omega.{arith}
 use lib.ListN.{length-set}
 use Rattle.rules.specs.Bits.{lowByte, highByte}
 use Rattle.rules.specs.Packet.{putBytes}
-use Rattle.store.proofs.Facts.{used-length}
+use Rattle.packet.proofs.Facts.{room-small}
 use Rattle.packet.proofs.access.write_word.Statement.{statement}
 use Rattle.packet.proofs.access.write_word.Tie as tie
 
 add-memory : tie.Need-add-memory
 add-memory c =
     let s = c .before .before .before in
-    omega (arith, used-length (s .args .row), s .good .1 .0 .1 .0 .1, s .pre .within)
+    omega (arith, room-small (s .pre) (s .good .1 .0 .1 .0 .1))
 
 slice-write-memory-2 : tie.Need-slice-write-memory-2
 slice-write-memory-2 c = simp length-set (search needs)

@@ -1,5 +1,5 @@
 use borrow.Author.Needs.{needs}
-use mathlib.Core.Path.{_≡_, ap, sym, _∙_}
+use mathlib.Core.Path.{ap, _∙_}
 use mathlib.Core.List.{List}
 use Prim.Native.Nat.{ℕ}
 use native.Mathlib.Omega.{arith}
@@ -7,11 +7,11 @@ use lib.ListN.{length, getD}
 use Rattle.store.proofs.map.page_at.Statement.{statement}
 use Rattle.store.proofs.map.page_at.Tie as tie
 
-nth-requires : tie.Need-nth-requires
-nth-requires c κs = omega (arith, ap length (c .row-of .ensures), c .before .pre)
+nth-page-requires : tie.Need-nth-page-requires
+nth-page-requires c κs = omega (arith, ap length (c .row-of .ensures), c .before .pre)
 
 returns : tie.Need-returns
-returns c = c .nth .ensures ∙ ap (λ (l : List ℕ). getD l (c .before .before .args .k) 0) (c .before .row-of .ensures)
+returns c = c .nth-page .ensures ∙ ap (λ (l : List ℕ). getD l (c .before .before .args .k) 0) (c .before .row-of .ensures)
 
 pub page-at-spec : {M : Type 1} → statement M
-page-at-spec = tie.close (tie.spec (λ c κs. search needs) nth-requires returns)
+page-at-spec = tie.close (tie.spec (λ c κs. search needs) nth-page-requires returns)

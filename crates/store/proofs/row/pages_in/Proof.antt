@@ -1,14 +1,14 @@
 use borrow.Author.Needs.{needs}
-use mathlib.Core.Path.{_≡_, ap, sym, _∙_}
+use mathlib.Core.Path.{_≡_, ap}
 use mathlib.Core.List.{List}
-use Prim.Native.Nat.{ℕ, _≤_, _<_, _-_, _+_}
+use Prim.Native.Nat.{_≤_, _<_, _-_, _+_}
 use native.Mathlib.Omega.{arith}
 use lib.ListN.{length, drop, drop-of-length-le}
 use Rattle.store.specs.declared.Page.{Page}
 use Rattle.store.specs.Views.{page, used}
 use Rattle.store.proofs.Facts.{used-stop, used-on}
-use Rattle.store.proofs.row.count.Statement.{statement}
-use Rattle.store.proofs.row.count.Tie as tie
+use Rattle.store.proofs.row.pages_in.Statement.{statement}
+use Rattle.store.proofs.row.pages_in.Tie as tie
 
 abbrev Inv-loop : tie.InvT-loop
 Inv-loop row j₀ j = (j ≤ 8) × (length (used row) ≡ length (used (drop j row)) + j)
@@ -42,6 +42,6 @@ returns-2 c =
     let row = a .before .before .args .t1 in
     omega (arith, a .before .loop .inv .1, ap length (used-stop row (a .before .loop .j) (page 0) (within a) (c .if1 .taken)))
 
-pub count-spec : {M : Type 1} → statement M
-count-spec =
+pub pages-in-spec : {M : Type 1} → statement M
+pages-in-spec =
     tie.close (tie.spec Inv-loop μ-loop (λ c. search needs) (λ c. search needs) (λ c. search needs) (λ c. search needs) loop-again returns returns-2)

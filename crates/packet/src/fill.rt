@@ -1,0 +1,73 @@
+// Runs of bytes into a page of a packet, and out of its pages.
+use crate::access::place_of;
+use store::Address;
+use store::Page;
+ghost use mathlib.Core.Path.{_≡_};
+ghost use Prim.Native.Nat.{_+_, _-_, _%_, _≤_, min};
+ghost use lib.ListN.{length, take, drop};
+ghost use Rattle.rules.specs.Answers.{over};
+ghost use Rattle.rules.specs.Packet.{getBytes, putBytes};
+ghost use Rattle.store.specs.Views.{used};
+ghost use Rattle.packet.specs.Room.{Room};
+
+// The smaller of the two.
+pub fn least(a: usize, b: usize) -> usize
+    ensures { λ r. ⌜ r ≡ min a b ⌝ }
+{
+    if a < b { a } else { b }
+}
+
+// Writes the bytes over the front of the part that it is lent, and leaves the rest of it. LLVM makes vector moves of the loop, 32 bytes a turn, with
+// no test of an index, also where it stands inlined in `store_frame` and `copy_out` (seen with objdump in a static library).
+pub fn fill_part(part: &mut [u8], bytes: &[u8])
+    requires { ⌜ length (now bytes) ≤ length (now part) ⌝ }
+    ensures { λ _. ⌜ now (part .exit) ≡ over (now (bytes .entry)) (now (part .entry)) ⌝ }
+{
+    let mut i = 0;
+    while i < bytes.len() {
+        part[i] = bytes[i];
+        i += 1;
+    }
+}
+
+// The page from the address on is a part from the middle of memory, and what goes there a part of the frame; both are lent to `fill_part`.
+pub fn fill_page(
+    memory: &mut [u8],
+    row: [Page; 8],
+    at: Address,
+    frame: &[u8],
+    from: usize,
+    to: usize,
+)
+    requires { ⌜ (from ≤ to) × (to ≤ length (now frame)) × (at .0 % 256 + (to - from) ≤ 256) × Room (at .0 + 1) row (now memory) ⌝ }
+    ensures { λ _. ⌜ now (memory .exit) ≡ putBytes (take (to - from) (drop from (now (frame .entry)))) (at .0) (used row) (now (memory .entry)) ⌝ }
+{
+    let start = place_of(row, at);
+    let end = start + (256 - at.0 as usize % 256);
+    fill_part(&mut memory[start..end], &frame[from..to]);
+}
+
+// Fills the buffer with the packet's bytes from the address on, all in one page.
+pub fn copy_page(memory: &[u8], row: [Page; 8], at: Address, out: &mut [u8])
+    requires { ⌜ (at .0 % 256 + length (now out) ≤ 256) × Room (at .0 + 1) row (now memory) ⌝ }
+    ensures { λ _. ⌜ now (out .exit) ≡ getBytes (length (now (out .entry))) (at .0) (used row) (now (memory .entry)) ⌝ }
+{
+    let start = place_of(row, at);
+    let end = start + out.len();
+    fill_part(out, &memory[start..end]);
+}
+
+// The packet's data, from address 4 on, over the front of the buffer.
+pub fn copy_out(memory: &[u8], row: [Page; 8], len: usize, out: &mut [u8])
+    requires { ⌜ (len ≤ length (now out)) × Room (len + 4) row (now memory) ⌝ }
+    ensures { λ _. ⌜ now (out .exit) ≡ over (getBytes len 4 (used row) (now (memory .entry))) (now (out .entry)) ⌝ }
+{
+    let mut at = 4;
+    while at < len + 4 {
+        let next = least(len + 4, (at / 256 + 1) * 256);
+        let from = at - 4;
+        let to = next - 4;
+        copy_page(memory, row, Address(at as u16), &mut out[from..to]);
+        at = next;
+    }
+}
