@@ -1,7 +1,6 @@
 -- Shifts to the left within 16 bits: a bit shifted to place k is its weight.
 use mathlib.Core.Path.{_≡_}
 use Prim.Native.Nat.{ℕ, _*_, _/_, _%_, _^_, _<_}
-use native.Mathlib.Nat.{mod-lt}
 use native.Mathlib.Omega.{arith}
 use lib.Pow.{shl-exact}
 

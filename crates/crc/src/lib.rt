@@ -1,32 +1,46 @@
 // The 32-bit remainder of IEEE 802.3 over a part of a slice: wire bit order, preset to ones, shifted left, not complemented.
+// A byte goes in at once, and no table is kept: a constant array would be copied to the stack wherever it is read.
 ghost use mathlib.Core.Path.{_≡_};
-ghost use Prim.Native.Nat.{_<_};
-ghost use Rattle.rules.specs.Crc.{crcBit, crcBits, crc, hash};
+ghost use Prim.Native.Nat.{_*_, _^_, _<_};
+ghost use Rattle.rules.specs.Crc.{crcBits, crcFrom, crc, hash};
+ghost use Rattle.crc.specs.Mirror.{mirror};
 
-const POLYNOMIAL: u32 = 0x04c1_1db7;
-
-const TOP: u32 = 0x8000_0000;
-
-// One wire bit shifted in.
-fn bit_in(r: u32, b: u32) -> u32
-    ensures { λ s. ⌜ s ≡ crcBit b r ⌝ }
+// The byte with its bits in the other order: the wire sends the lowest first, and the remainder has what comes first at its top.
+fn mirrored(byte: u8) -> u32
+    ensures { λ m. ⌜ m ≡ mirror 8 byte ⌝ }
 {
-    let shifted = r % TOP * 2;
-    if r / TOP == b {
-        return shifted;
-    }
-    POLYNOMIAL ^ shifted
+    let b = byte as u32;
+    (b % 2 << 7 ^ b / 2 % 2 << 6 ^ b / 4 % 2 << 5 ^ b / 8 % 2 << 4)
+        ^ (b / 16 % 2 << 3 ^ b / 32 % 2 << 2 ^ b / 64 % 2 << 1 ^ b / 128)
+}
+
+// What eight shifts make of a byte at the top of the remainder. The polynomial's bits are 26 23 22 16 12 11 10 8 7 5 4 2 1 0, so of the
+// eight bits the first two meet its bit 26 again within the byte: q has the bits that add it, and the polynomial times q without carries is the answer.
+fn gone_out(byte: u32) -> u32
+    requires { ⌜ byte < 256 ⌝ }
+    ensures { λ r. ⌜ r ≡ crcBits 8 0 (byte * 2 ^ 24) ⌝ }
+{
+    let q = byte ^ byte / 64;
+    let pair = q ^ q << 1;
+    let low = (pair ^ pair << 4) ^ (pair << 7 ^ pair << 10);
+    let high = (pair << 22 ^ q << 2) ^ (q << 12 ^ (q << 16 ^ q << 26));
+    low ^ high
 }
 
 // A byte shifted in, its lowest bit first.
 pub fn byte_in(r: u32, byte: u8) -> u32
     ensures { λ s. ⌜ s ≡ crcBits 8 byte r ⌝ }
 {
+    gone_out(r / 0x0100_0000 ^ mirrored(byte)) ^ r << 8
+}
+
+// The remainder r, taken on over the bytes.
+pub fn remainder_from(r: u32, bytes: &[u8]) -> u32
+    ensures { λ s. ⌜ s ≡ crcFrom r (now (bytes .entry)) ⌝ }
+{
     let mut s = r;
-    let mut left = byte as u32;
-    for k in 0..8u32 {
-        s = bit_in(s, left % 2);
-        left = left / 2;
+    for k in 0..bytes.len() {
+        s = byte_in(s, bytes[k]);
     }
     s
 }
@@ -35,11 +49,7 @@ pub fn byte_in(r: u32, byte: u8) -> u32
 pub fn remainder(bytes: &[u8]) -> u32
     ensures { λ r. ⌜ r ≡ crc (now (bytes .entry)) ⌝ }
 {
-    let mut r: u32 = 0xffff_ffff;
-    for k in 0..bytes.len() {
-        r = byte_in(r, bytes[k]);
-    }
-    r
+    remainder_from(0xffff_ffff, bytes)
 }
 
 // The remainder's top six bits, by which a group address is looked up.

@@ -80,7 +80,7 @@ fn first_of(a: Gate, b: Gate) -> Gate
 pub fn checked(row: [Page; 8], reading: bool, wide: bool, pointer: u16) -> Gate
     ensures { λ g. ⌜ Guards reading (widthOf wide) pointer row g ⌝ }
 {
-    let pages = store::count(row);
+    let pages = store::pages_in(row);
     let end = pointer as usize % 2048 + width_of(wide) as usize;
     let none = refused_if(pages == 0, absent(pointer));
     let against = refused_if(is_against(pointer, reading), Answer::AgainstRead);

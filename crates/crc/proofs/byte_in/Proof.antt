@@ -1,29 +1,24 @@
--- The bits still to go, shifted into what there is, give what all eight give.
-use mathlib.Core.Path.{_≡_, refl, ap, sym, _∙_}
-use Prim.Native.Nat.{_+_, _≤_, _-_, _/_}
+-- The byte that goes out and the one that comes in, mirrored, are added at the top, and eight shifts follow.
+use mathlib.Core.Path.{ap, _∙_}
+use Prim.Native.Nat.{ℕ, _*_, _/_, _%_, _^_}
 use native.Mathlib.Omega.{arith}
 use borrow.Author.Needs.{needs}
-use Rattle.rules.specs.Crc.{crcBit, crcBits}
-use Rattle.crc.proofs.Steps.{bit-on}
+use lib.Bits.{bitXor, xor-lt}
+use Rattle.rules.specs.Crc.{crcBits}
+use Rattle.crc.proofs.Bytes.{mirror-lt}
+use Rattle.crc.proofs.Steps.{byte-at-once}
 use Rattle.crc.proofs.byte_in.Statement.{statement}
 use Rattle.crc.proofs.byte_in.Tie as tie
 
-abbrev Inv-loop : tie.InvT-loop
-Inv-loop r byte s₀ left₀ k₀ s left k = (k ≤ 8) × (crcBits (8 - k) left s ≡ crcBits 8 byte r)
+gone-out-requires : tie.Need-gone-out-requires
+gone-out-requires c κs = let s = c .before in xor-lt 8 (s .args .r / 2 ^ 24) (c .mirrored .result) (search needs) (omega (arith, c .mirrored .ensures, mirror-lt (s .args .byte) (search needs)))
 
-abbrev μ-loop : tie.MeasureT-loop
-μ-loop r byte s₀ left₀ k₀ s left k = 8 - k
-
-loop-again : tie.Need-loop-again Inv-loop μ-loop
-loop-again c =
-    let a = c .before .before in
-    (search needs, ap (crcBits (8 - (a .loop .k + 1)) (a .loop .left / 2)) (c .bit-in .ensures) ∙ bit-on (a .loop .k) _ _ (search needs) ∙ a .loop .inv .1)
-
-returns : tie.Need-returns Inv-loop μ-loop
-unfolding crcBits
-returns c = let e : c .before .loop .k ≡ 8 = search needs in rw e at (c .before .loop .inv .1)
+returns : tie.Need-returns
+returns c =
+    let m = c .before in
+    let s = m .before in
+    ap (λ (y : ℕ). bitXor y (s .args .r * 256 % 2 ^ 32)) (c .gone-out .ensures ∙ ap (λ (y : ℕ). crcBits 8 0 (bitXor (s .args .r / 2 ^ 24) y * 2 ^ 24)) (m .mirrored .ensures))
+    ∙ byte-at-once (s .args .byte) (s .args .r) (search needs) (search needs)
 
 pub byte-in-spec : {M : Type 1} → statement M
-byte-in-spec =
-    tie.close
-    (tie.spec Inv-loop μ-loop (λ c. search needs) (λ c κs. search needs) (λ c. search needs) (λ c. search needs) loop-again returns)
+byte-in-spec = tie.close (tie.spec (λ c κs. search needs) gone-out-requires returns)

@@ -1,34 +1,12 @@
--- The bytes still to go, from the remainder so far, give the remainder of all.
-use mathlib.Core.Path.{_≡_, ap, _∙_}
-use Prim.Native.Nat.{ℕ, _+_, _≤_, _-_}
+-- The preset is all ones.
 use borrow.Author.Needs.{needs}
-use lib.ListN.{length, drop, drop-of-length-le}
-use Rattle.rules.specs.Crc.{crcFrom, crc}
-use Rattle.crc.proofs.Steps.{byte-on}
+use Rattle.rules.specs.Crc.{crc}
 use Rattle.crc.proofs.remainder.Statement.{statement}
 use Rattle.crc.proofs.remainder.Tie as tie
 
-abbrev Inv-loop : tie.InvT-loop
-Inv-loop bytes r₀ k₀ k-end r k = (k ≤ length bytes) × (crcFrom r (drop k bytes) ≡ crc bytes)
-
-abbrev μ-loop : tie.MeasureT-loop
-μ-loop bytes r₀ k₀ k-end r k = length bytes - k
-
-loop-holds : tie.Need-loop-holds Inv-loop μ-loop
+returns : tie.Need-returns
 unfolding crc
-loop-holds c = search needs
-
-loop-again : tie.Need-loop-again Inv-loop μ-loop
-loop-again c =
-    let a = c .before .before .before in
-    let bytes = a .before .before .args .bytes .now in
-    (search needs, ap (λ (r : ℕ). crcFrom r (drop (a .loop .k + 1) bytes)) (c .byte-in .ensures) ∙ byte-on (a .loop .k) (a .loop .r) bytes (search needs) ∙ a .loop .inv .1)
-
-returns : tie.Need-returns Inv-loop μ-loop
-unfolding crcFrom
-returns c = let a = c .before in rw (drop-of-length-le (a .before .before .args .bytes .now) {i = a .loop .k} (search needs)) at (a .loop .inv .1)
+returns c = search needs
 
 pub remainder-spec : {M : Type 1} → statement M
-remainder-spec =
-    tie.close
-    (tie.spec Inv-loop μ-loop loop-holds (λ c. search needs) (λ c κs. search needs) (λ c. search needs) (λ c. search needs) loop-again returns)
+remainder-spec = tie.close (tie.spec (λ c κs. search needs) returns)

@@ -10,7 +10,7 @@ use Rattle.data.proofs.checks.checked.Tie as tie
 mul-refused-if : tie.Need-mul-refused-if
 mul-refused-if c =
     let k = c .before .before .before .before .before .before .before in
-    record { fits = omega (arith, k .count .ensures, used-length (k .before .args .row), k .before .good .0 .1 .0 .1) }
+    record { fits = omega (arith, k .pages-in .ensures, used-length (k .before .args .row), k .before .good .0 .1 .0 .1) }
 
 returns : tie.Need-returns
 returns c =
@@ -26,7 +26,7 @@ returns c =
     ∙ ap₂ firstOf (against .refused-if2 .ensures) (c .before .before .first-of .ensures
     ∙ ap₂ firstOf (odd .refused-if3 .ensures) (past .refused-if4 .ensures))) in
     rw (e, against .before .is-against .ensures, odd .before .is-odd-fixed .ensures, none .before .before .width-of .ensures)
-    (guards (a .reading) (widthOf (a .wide)) (a .pointer) (a .row) (count .count .result) (none .before .absent .result) (count .count .ensures) (none .before .absent .ensures))
+    (guards (a .reading) (widthOf (a .wide)) (a .pointer) (a .row) (count .pages-in .result) (none .before .absent .result) (count .pages-in .ensures) (none .before .absent .ensures))
 
 pub checked-spec : {M : Type 1} → statement M
 checked-spec =
