@@ -1,14 +1,16 @@
 -- How a gate stands for the tests of the rules: refusals 7 or 5, 8, 9 and 10 in this order, and the access behind them.
 use mathlib.Core.Path.{_≡_, refl, ap, sym, subst, _∙_}
-use mathlib.Core.Bool.{Bool, true, false, cond}
+use mathlib.Core.Bool.{Bool, true, false, cond, not}
+use lib.Dec.{eqb, ltb}
 use mathlib.Core.List.{List, [], _∷_}
 use Prim.Native.Nat.{ℕ, _+_, _*_, _%_, _≤_, _<_}
 use native.Mathlib.Omega.{arith}
-use borrow.Author.Tests.{lt-ltb, le-ltb}
+use borrow.Author.Tests.{ltb-false, ne-eqb}
 use lib.ListN.{length, getD, List·getD-eq-default}
 use Rattle.rules.specs.Lists.{some?}
 use Rattle.rules.specs.Chip.{Chip, pagesAt, allocated}
-use Rattle.rules.specs.Answers.{Step, refuse}
+use Rattle.rules.specs.Fields.{setPointer, inRegisters}
+use Rattle.rules.specs.Answers.{Reply, Step, refusal, refuse}
 use Rattle.rules.specs.WellFormed.{WellFormed}
 use Rattle.rules.specs.Mmu.{ifHead}
 use Rattle.rules.specs.Data.{rcv, against, oddFixed, past, address, ifPacket, ifOpen}
@@ -19,46 +21,54 @@ use Rattle.store.specs.Views.{used, pagesOf, entries}
 use Rattle.packet.specs.Room.{Room}
 use Rattle.state.specs.declared.Registers.{Registers}
 use Rattle.state.specs.declared.Answer.{Answer}
+use Rattle.state.specs.declared.Answer.the-variants.{AgainstRead, OddPointer, PastPages}
 use Rattle.state.specs.declared.Touched.{Touched}
 use Rattle.state.specs.View.{view, replyOf, Ready, Touches}
 use Rattle.data.specs.declared.Gate.{Gate}
 use Rattle.data.specs.declared.Gate.the-variants.{Open, Refused}
-use Rattle.data.specs.Access.{headOr24, meantBy, ifAny, through, Guards}
+use Rattle.data.specs.Access.{headOr24, meantBy, ifAny, refusedIf, firstOf, through, Guards}
 
--- The tests of the rules, with their answers.
-none-some : (l : List ℕ) → length l ≡ 0 → some? l ≡ false
+-- The four gates in their order are the tests of the rules.
+some-count : (l : List ℕ) (k : ℕ) → k ≡ length l → some? l ≡ not (eqb k 0)
 unfolding some?
-none-some [] h = refl
-none-some (x ∷ xs) h = absurd (omega arith)
+some-count [] k e = rw e
+some-count (x ∷ xs) k e = rw (ne-eqb k 0 (omega arith))
 
-some-some : (l : List ℕ) → 0 < length l → some? l ≡ true
-unfolding some?
-some-some [] h = absurd (omega arith)
-some-some (x ∷ xs) h = refl
+abbrev gates : Bool → Bool → Bool → Bool → Answer → Gate
+gates none against odd past absent =
+    firstOf (refusedIf none absent) (firstOf (refusedIf against AgainstRead) (firstOf (refusedIf odd OddPointer) (refusedIf past PastPages)))
 
-module _ (isRead : Bool) (width p : ℕ) (pages : List ℕ) (c : Chip) (s : Step) (e : c .regs .pointer ≡ p) where
-  pub none : (b : Bool) → length pages ≡ 0 → rcv p ≡ b → ifAny isRead width pages c s ≡ refuse (cond b 7 5) c
-  unfolding ifAny
-  none b h f = rw (none-some pages h, e, f)
+in-order : (n a o q : Bool) (x : Answer) (k : ℕ) → replyOf x ≡ refusal k → (c : Chip) (s : Step)
+    → cond (not n) (cond a (refuse 8 c) (cond o (refuse 9 c) (cond q (refuse 10 c) s))) (refuse k c) ≡ through (gates n a o q x) c s
+in-order true a o q x k e c s = ap (λ (r : Reply). record { reply = r; chip = c }) (sym e)
+in-order false true o q x k e c s = refl
+in-order false false true q x k e c s = refl
+in-order false false false true x k e c s = refl
+in-order false false false false x k e c s = refl
 
-  pub some : 0 < length pages → (a b d : Bool) → against isRead p ≡ a → oddFixed p ≡ b → past width p pages ≡ d
-      → ifAny isRead width pages c s ≡ cond a (refuse 8 c) (cond b (refuse 9 c) (cond d (refuse 10 c) s))
-  unfolding ifAny ifOpen
-  some h a b d x y z = rw (some-some pages h, e, x, y, z)
+closed : {a : Answer} → Refused a ≡ Open → ⊥
+closed e = let z : _≡_ {A = ℕ} 0 1 = cc in omega arith
 
-module _ (width p : ℕ) (pages : List ℕ) where
-  pub is-past : 256 * length pages < p % 2048 + width → past width p pages ≡ true
-  unfolding past address
-  is-past h = lt-ltb _ _ h
+open-last : (n a o q : Bool) (x : Answer) → gates n a o q x ≡ Open → q ≡ false
+open-last true a o q x e = absurd (closed e)
+open-last false true o q x e = absurd (closed e)
+open-last false false true q x e = absurd (closed e)
+open-last false false false true x e = absurd (closed e)
+open-last false false false false x e = refl
 
-  pub is-within : p % 2048 + width ≤ 256 * length pages → past width p pages ≡ false
-  unfolding past address
-  is-within h = le-ltb _ _ h
-
--- A gate that refuses.
-pub refused : {isRead : Bool} {width p : ℕ} {row : List Page} {a : Answer}
-    → ((c : Chip) (s : Step) → c .regs .pointer ≡ p → ifAny isRead width (used row) c s ≡ through (Refused a) c s) → Guards isRead width p row (Refused a)
-refused h = record { step = h; room = λ e. let z : _≡_ {A = ℕ} 0 1 = cc in absurd (omega arith) }
+module _ (isRead : Bool) (width p : ℕ) (row : List Page) (pages : ℕ) (absent : Answer) (e : pages ≡ length (used row)) where
+  pub guards : replyOf absent ≡ refusal (cond (rcv p) 7 5)
+      → Guards isRead width p row (gates (eqb pages 0) (against isRead p) (oddFixed p) (ltb (256 * pages) (p % 2048 + width)) absent)
+  unfolding ifAny ifOpen past address
+  guards f =
+      let n = eqb pages 0 in
+      let a = against isRead p in
+      let o = oddFixed p in
+      let q = ltb (256 * pages) (p % 2048 + width) in
+      record {
+        step = λ c s g. rw (g, some-count (used row) pages e, ← e) (in-order n a o q absent _ f (inRegisters (setPointer p) c) s);
+        room = λ g. rw (← e) (ltb-false _ _ (open-last n a o q absent g));
+      }
 
 -- An access goes by the pages of the packet that is meant.
 module _ (c : Chip) (w : WellFormed c) (access : List ℕ → Step) where

@@ -11,6 +11,7 @@ use Rattle.rules.specs.Answers.{Step, refuse}
 use Rattle.rules.specs.Data.{rcv, address, ifOpen}
 use Rattle.store.specs.declared.Page.{Page}
 use Rattle.store.specs.Views.{used}
+use Rattle.state.specs.declared.Answer.{Answer}
 use Rattle.state.specs.View.{replyOf}
 use Rattle.data.specs.declared.Gate.{Gate}
 use Rattle.data.specs.declared.Gate.the-variants.{Open, Refused}
@@ -35,6 +36,15 @@ meantBy pointer packet rx = cond (rcv pointer) (headOr24 rx) packet
 -- an access to a packet with these pages: refusal 7 or 5 where there are none, then 8, 9 and 10
 unfoldable pub ifAny : Bool → ℕ → List ℕ → Chip → Step → Step
 ifAny isRead width pages c s = cond (some? pages) (ifOpen isRead width pages c s) (refuse (cond (rcv (c .regs .pointer)) 7 5) c)
+
+-- a gate that refuses where the test holds, and the first of two that refuses
+abbrev pub refusedIf : Bool → Answer → Gate
+refusedIf true a = Refused a
+refusedIf false a = Open
+
+abbrev pub firstOf : Gate → Gate → Gate
+firstOf Open g = g
+firstOf (Refused a) g = Refused a
 
 -- what a gate does with the access behind it
 abbrev pub through : Gate → Chip → Step → Step

@@ -7,7 +7,11 @@ use store::Page;
 ghost use mathlib.Core.Path.{_≡_};
 ghost use Prim.Native.Nat.{_≤_};
 ghost use lib.ListN.{length, take};
+ghost use mathlib.Core.List.{[]};
 ghost use Rattle.rules.specs.Bench as rules;
+ghost use Rattle.rules.specs.Step as steps;
+ghost use Rattle.receive.specs.Arrivals.{frameOf};
+ghost use Rattle.state.specs.Promise.{Right};
 ghost use Rattle.records.specs.Gathers.{holding};
 ghost use Rattle.state.specs.View.{view};
 ghost use Rattle.serving.specs.Turns.{Held, Turns, Gathered};
@@ -32,6 +36,24 @@ fn gather_more(
         }
         Gathering::Refused => state::make_stepped(Answer::OutsideLimits, r, map),
     }
+}
+
+// The gathered bytes arrive as a frame, and gathering starts anew whatever the answer.
+fn frame_ends(
+    r: Registers,
+    map: [[Page; 8]; 24],
+    memory: &mut [u8],
+    wire: &[u8],
+    have: &mut usize,
+    crc: bool,
+    align: bool,
+) -> Stepped
+    requires { ⌜ Held r map (now memory) (now wire) (now have) ⌝ }
+    ensures { λ x. ⌜ Right (steps.step (steps.frame (frameOf (take (now (have .entry)) (now (wire .entry))) crc align)) (view r map (now (memory .entry))) []) x (now (memory .exit)) [] × (now (have .exit) ≡ 0) ⌝ }
+{
+    let n = *have;
+    *have = 0;
+    chip::arrived(r, map, memory, &wire[0..n], crc, align)
 }
 
 // The next step, of registers, page map, memory, gathered wire bytes and output buffer.
@@ -62,7 +84,7 @@ pub fn turned(
             chip::accessed(r, map, memory, Request::Write(Width::Word, offset, value))
         }
         Event::Wire(count) => gather_more(r, map, wire, have, bytes, count),
-        Event::Ends(_, _) => state::make_stepped(Answer::CutShort, r, map),
+        Event::Ends(crc, align) => frame_ends(r, map, memory, wire, have, crc, align),
         Event::Send(outcome, collisions, deferral) => {
             chip::finished(r, map, memory, out, outcome, collisions, deferral)
         }

@@ -1,0 +1,11 @@
+use borrow.Author.Needs.{needs}
+use Rattle.rules.specs.Receive.{broadcast}
+use Rattle.receive.proofs.address.is_broadcast.Statement.{statement}
+use Rattle.receive.proofs.address.is_broadcast.Tie as tie
+
+returns : tie.Need-returns
+unfolding broadcast
+returns c = c .same-bytes .ensures
+
+pub is-broadcast-spec : {M : Type 1} → statement M
+is-broadcast-spec = tie.close (tie.spec (λ c κs. search needs) returns)

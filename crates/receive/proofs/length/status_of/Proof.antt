@@ -1,0 +1,56 @@
+use borrow.Author.Needs.{needs}
+use mathlib.Core.Path.{_≡_, ap, _∙_}
+use native.Mathlib.Omega.{arith}
+use Rattle.rules.specs.Bits.{flag}
+use Rattle.rules.specs.Receive.{frameStatus}
+use Rattle.receive.proofs.length.status_of.Statement.{statement}
+use Rattle.receive.proofs.length.status_of.Tie as tie
+
+returns : tie.Need-returns
+unfolding frameStatus
+returns c =
+    let odd = c .before .before .before .before in
+    let broad = odd .before .before in
+    omega (
+      arith,
+      c .before .flag-of5 .ensures .0,
+      broad .flag-of .ensures .0 ∙ ap flag (broad .before .is-broadcast .ensures),
+      c .flag-of6 .ensures .0,
+      odd .flag-of2 .ensures .0 ∙ ap flag (odd .before .is-odd .ensures),
+      c .before .before .before .flag-of3 .ensures .0,
+      c .before .before .flag-of4 .ensures .0,
+      broad .before .before .before .group-bits .ensures .0,
+    )
+
+pub status-of-spec : {M : Type 1} → statement M
+status-of-spec =
+    tie.close
+    (tie.spec
+    (λ c. search needs)
+    (λ c. search needs)
+    (λ c. search needs)
+    (λ c κs. search needs)
+    (λ c. search needs)
+    (λ c. search needs)
+    (λ c. search needs)
+    (λ c κs. search needs)
+    (λ c κs. search needs)
+    (λ c κs. search needs)
+    (λ c κs. search needs)
+    (λ c κs. search needs)
+    (λ c κs. search needs)
+    (λ c κs. search needs)
+    (λ c. search needs)
+    (λ c. search needs)
+    (λ c. search needs)
+    (λ c κs. search needs)
+    (λ c. search needs)
+    (λ c. search needs)
+    (λ c. search needs)
+    (λ c. search needs)
+    (λ c. search needs)
+    (λ c. search needs)
+    (λ c. search needs)
+    (λ c. search needs)
+    (λ c. search needs)
+    returns)

@@ -1,0 +1,2 @@
+-- What the parts of an arrival promise.
+pub mod Arrivals

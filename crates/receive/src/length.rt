@@ -1,0 +1,53 @@
+// How much is stored of a frame, in how many pages, and its status.
+use crate::address::group_bits;
+use crate::address::is_broadcast;
+use bits::flag_of;
+ghost use mathlib.Core.Path.{_≡_};
+ghost use Prim.Native.Nat.{_≤_};
+ghost use lib.ListN.{length};
+ghost use Rattle.rules.specs.Receive.{dataLength, countOf, pagesFor, frameStatus};
+ghost use Rattle.receive.specs.Arrivals.{frameOf, withRcr};
+
+// n is the length, less 4 when RCR bit 9 is set.
+pub fn data_length(rcr: u16, len: usize) -> usize
+    requires { ⌜ 18 ≤ len ⌝ }
+    ensures { λ n. ⌜ n ≡ dataLength (withRcr rcr) len ⌝ }
+{
+    if bits::is_set(rcr, 9) {
+        return len - 4;
+    }
+    len
+}
+
+// The count is n + 6 (even) or n + 5 (odd).
+pub fn count_of(n: usize) -> u16
+    requires { ⌜ n ≤ 1532 ⌝ }
+    ensures { λ c. ⌜ c ≡ countOf n ⌝ }
+{
+    if bits::is_odd(n) {
+        return n as u16 + 5;
+    }
+    n as u16 + 6
+}
+
+pub fn pages_for(n: usize) -> usize
+    requires { ⌜ n ≤ 1532 ⌝ }
+    ensures { λ k. ⌜ k ≡ pagesFor (countOf n) ⌝ }
+{
+    (count_of(n) as usize + 255) / 256
+}
+
+// 15 alignment, 14 broadcast, 13 bad CRC, 12 odd n, 11 frame with FCS over 1,518 bytes, 10 under 64; and what there is to say of a group address.
+pub fn status_of(frame: &[u8], n: usize, badcrc: bool, alignment: bool) -> u16
+    requires { ⌜ 18 ≤ length (now frame) ⌝ }
+    ensures { λ s. ⌜ s ≡ frameStatus (frameOf (now (frame .entry)) badcrc alignment) n ⌝ }
+{
+    let len = frame.len();
+    let group = group_bits(&frame[0..6]);
+    let broadcast = flag_of(is_broadcast(&frame[0..6]));
+    let odd = flag_of(bits::is_odd(n));
+    let long = flag_of(1518 < len);
+    let short = flag_of(len < 64);
+    let flags = 0x8000 * flag_of(alignment) + 0x4000 * broadcast + 0x2000 * flag_of(badcrc);
+    flags + 0x1000 * odd + 0x0800 * long + 0x0400 * short + group
+}
