@@ -1,5 +1,5 @@
 -- From what the chip's entries promise to one step of the bench.
-use mathlib.Core.Path.{_≡_, refl, ap, sym, _∙_}
+use mathlib.Core.Path.{_≡_, refl, ap, sym, subst, _∙_}
 use mathlib.Core.Bool.{Bool, true, false, cond}
 use mathlib.Core.List.{List, []}
 use Prim.Native.Nat.{ℕ, _≤_}
@@ -100,3 +100,7 @@ pub as-told : {e k : Event} (bytes : List ℕ) (b : rules.Bench) {x : Stepped} {
     → Turns (rules.answer (meant k bytes) b) x mem wire have out → Turns (rules.answer (rules.eventOf bytes) b) x mem wire have out
 as-told bytes b {x} {mem} {wire} {have} {out} p q t =
     rw (sym p ∙ ap (λ (k : Event). meant k bytes) q) t
+
+-- No wire byte is held any more.
+pub none-left : {a : rules.Answered} {x : Stepped} {mem wire : List ℕ} {have : ℕ} {out : List ℕ} → have ≡ 0 → Turns a x mem wire 0 out → Turns a x mem wire have out
+none-left {a} {x} {mem} {wire} {have} {out} e = subst (λ (n : ℕ). Turns a x mem wire n out) (sym e)

@@ -1,8 +1,11 @@
 // One step of the bench: a record, and what becomes of it.
 use chip::Request;
-use records::{Event, Gathering};
+use records::Event;
+use records::Gathering;
 use registers::Width;
-use state::{Answer, Registers, Stepped};
+use state::Answer;
+use state::Registers;
+use state::Stepped;
 use store::Page;
 ghost use mathlib.Core.Path.{_≡_};
 ghost use Prim.Native.Nat.{_≤_};

@@ -1,0 +1,25 @@
+use mathlib.Core.Path.{_≡_, refl, ap, subst}
+use mathlib.Core.List.{List, []}
+use Prim.Native.Nat.{ℕ, _-_}
+use borrow.Author.Needs.{needs}
+use native.Mathlib.Omega.{arith}
+use lib.ListN.{take}
+use Rattle.rules.specs.Step.{frame, step}
+use Rattle.receive.specs.Arrivals.{frameOf}
+use Rattle.state.specs.View.{view}
+use Rattle.state.specs.Promise.{Right}
+use Rattle.serving.proofs.turn.frame_ends.Statement.{statement}
+use Rattle.serving.proofs.turn.frame_ends.Tie as tie
+
+returns : tie.Need-returns
+returns c =
+    let a = c .before .before in
+    let s = a .before .before .before .before .before .before in
+    let n : s .args .have .now - 0 ≡ s .args .have .now = omega arith in
+    let e = ap (λ (k : ℕ). take k (s .args .wire .now)) n in
+    (subst (λ (l : List ℕ). Right (step (frame (frameOf l (s .args .crc) (s .args .align))) (view (s .args .r) (s .args .map) (s .args .memory .now)) []) (a .arrived .result) (a .arrived .last .1 .1 .0) []) e (a .arrived .ensures), refl)
+
+pub frame-ends-spec : {M : Type 1} → statement M
+frame-ends-spec =
+    tie.close
+    (tie.spec (λ c. search needs) (λ c. search needs) (λ c. search needs) (λ c κs. search needs) (λ c. search needs) returns)
