@@ -1,4 +1,8 @@
 // The bench behind its program: one record after another, from standard input to standard output.
 mod turn; // turn.rt: one step of the bench
+mod batch; // batch.rt: the records at hand, and the line of each
+mod serve; // serve.rt: reading, answering and writing until the input ends
 
+pub use batch::answer_all;
+pub use serve::run;
 pub use turn::turned;

@@ -1,0 +1,27 @@
+use borrow.Author.Needs.{needs}
+use mathlib.Core.Path.{_≡_, refl, sym}
+use Prim.Native.Nat.{ℕ}
+use lib.ListN.{length-replicate}
+use Rattle.serving.proofs.serve.run.Statement.{statement}
+use Rattle.serving.proofs.serve.run.Tie as tie
+
+serve-from-requires : tie.Need-serve-from-requires
+serve-from-requires c κs =
+    let started = c .before .before .before .before .before .before .before .power-up .ensures in (
+      record { chip = rw (c .before .before .before .before .before .pages-of .ensures) (started .ready); room = length-replicate {A = ℕ} 2048 0; few = search needs },
+      (length-replicate {A = ℕ} 4096 0, length-replicate {A = ℕ} 16384 0),
+    )
+
+pub run-spec : {M : Type 1} → statement M
+run-spec =
+    tie.close
+    (tie.spec
+    (λ c κs. search needs)
+    (λ c κs. search needs)
+    (λ c. search needs)
+    (λ c. search needs)
+    (λ c. search needs)
+    (λ c. search needs)
+    (λ c. search needs)
+    serve-from-requires
+    (λ c. search needs))

@@ -1,0 +1,124 @@
+// From standard input to standard output: what is there is read, its complete records are answered, and their lines are written, until the input ends.
+use crate::batch::answer_all;
+use libc::STDIN_FILENO;
+use libc::STDOUT_FILENO;
+use state::Answer;
+use state::Registers;
+use store::Page;
+ghost use mathlib.Core.Path.{_≡_};
+ghost use Prim.Native.Nat.{_≤_, _<_};
+ghost use lib.ListN.{length};
+ghost use Rattle.serving.specs.Turns.{Held};
+
+// Reads what is there behind the bytes that are kept, and returns how many stand there then: as many as before where the input ends or cannot be read.
+fn read_more(input: &mut [u8], kept: usize) -> usize
+    requires { ⌜ kept ≤ length (now input) ⌝ }
+    ensures { λ filled. ⌜ filled ≤ length (now (input .entry)) ⌝ }
+{
+    let rest = &mut input[kept..];
+    let got = libc::read(STDIN_FILENO, rest);
+    kept + io::count(got, rest)
+}
+
+// The bytes behind the last complete record go to the front; returns how many they are.
+fn keep_tail(input: &mut [u8], filled: usize) -> usize
+    requires { ⌜ filled ≤ length (now input) ⌝ }
+    ensures { λ kept. ⌜ kept < 8 ⌝ }
+{
+    let kept = filled % 8;
+    let whole = filled - kept;
+    let mut i = 0;
+    while i < kept {
+        input[i] = input[whole + i];
+        i += 1;
+    }
+    kept
+}
+
+// Writes the lines that stand before `end`, and says whether that went well.
+fn write_lines(lines: &[u8], end: usize) -> bool
+    requires { ⌜ end ≤ length (now lines) ⌝ }
+{
+    io::write_all(STDOUT_FILENO, &lines[..end])
+}
+
+// The line of a record that the input's end cuts short.
+fn cut_short(lines: &mut [u8], kept: usize, number: u64)
+    requires { ⌜ 40 ≤ length (now lines) ⌝ }
+{
+    if kept == 0 {
+        return;
+    }
+    let shown = state::printed(Answer::CutShort);
+    let end = records::line_at(lines, 0, number, shown);
+    write_lines(lines, end);
+}
+
+// Every record is answered before more is waited for. The loop counts its turns down from a number that no run uses up.
+fn serve_from(
+    r: Registers,
+    map: [[Page; 8]; 24],
+    memory: &mut [u8],
+    wire: &mut [u8],
+    out: &mut [u8],
+    input: &mut [u8],
+    lines: &mut [u8],
+)
+    requires { ⌜ Held r map (now memory) (now wire) 0 ⌝ }
+    requires { ⌜ (length (now input) ≡ 4096) × (length (now lines) ≡ 16384) ⌝ }
+{
+    let mut registers = r;
+    let mut pages = map;
+    let mut have = 0;
+    let mut end = 0;
+    let mut number = 1;
+    let mut kept = 0;
+    let mut turns = u64::MAX;
+    while turns > 0 {
+        let filled = read_more(input, kept);
+        if filled == kept {
+            cut_short(lines, kept, number);
+            return;
+        }
+        let s = answer_all(
+            registers,
+            pages,
+            memory,
+            wire,
+            &mut have,
+            out,
+            &input[..filled],
+            lines,
+            &mut end,
+            &mut number,
+        );
+        registers = s.registers;
+        pages = state::pages_of(s);
+        if !write_lines(lines, end) {
+            return;
+        }
+        kept = keep_tail(input, filled);
+        turns -= 1;
+    }
+}
+
+// The bench, from power-up on.
+pub fn run() {
+    let s = chip::power_up();
+    let r = s.registers;
+    let map = state::pages_of(s);
+    let mut memory = [0; 6144];
+    let mut wire = [0; 2048];
+    let mut out = [0; 2048];
+    let mut input = [0; 4096];
+    let mut lines = [0; 16384];
+    serve_from(
+        r,
+        map,
+        &mut memory,
+        &mut wire,
+        &mut out,
+        &mut input,
+        &mut lines,
+    );
+}
