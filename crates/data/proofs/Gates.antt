@@ -1,14 +1,14 @@
 -- How a gate stands for the tests of the rules: refusals 7 or 5, 8, 9 and 10 in this order, and the access behind them.
 use mathlib.Core.Path.{_≡_, refl, ap, sym, subst, _∙_}
 use mathlib.Core.Bool.{Bool, true, false, cond, not}
-use lib.Dec.{eqb, ltb}
 use mathlib.Core.List.{List, [], _∷_}
-use Prim.Native.Nat.{ℕ, _+_, _*_, _%_, _≤_, _<_}
+use Prim.Native.Nat.{ℕ, _+_, _*_, _%_}
 use native.Mathlib.Omega.{arith}
 use borrow.Author.Tests.{ltb-false, ne-eqb}
+use lib.Dec.{eqb, ltb}
 use lib.ListN.{length, getD, List·getD-eq-default}
 use Rattle.rules.specs.Lists.{some?}
-use Rattle.rules.specs.Chip.{Chip, pagesAt, allocated}
+use Rattle.rules.specs.Chip.{Chip, pagesAt}
 use Rattle.rules.specs.Fields.{setPointer, inRegisters}
 use Rattle.rules.specs.Answers.{Reply, Step, refusal, refuse}
 use Rattle.rules.specs.WellFormed.{WellFormed}
@@ -93,6 +93,10 @@ pub record Checked (r : Registers) (m : List (List Page)) (isRead : Bool) (width
   pub ready : Ready r m
   pub pages : used row ≡ getD (pagesOf m) (meantBy (r .pointer) (r .packet) (entries (r .rx))) []
   pub guards : Guards isRead width (r .pointer) row g
+
+pub checked-is : {r : Registers} {m : List (List Page)} {isRead : Bool} {width k : ℕ} {row : List Page} {g : Gate} → Ready r m → used row ≡ getD (pagesOf m) k []
+    → k ≡ meantBy (r .pointer) (r .packet) (entries (r .rx)) → Guards isRead width (r .pointer) row g → Checked r m isRead width row g
+checked-is {m = m} w e f h = record { ready = w; pages = e ∙ ap (λ (i : ℕ). getD (pagesOf m) i []) f; guards = h }
 
 module _ {r : Registers} {m : List (List Page)} {isRead : Bool} {width : ℕ} {row : List Page} {g : Gate} (k : Checked r m isRead width row g) (mem : List ℕ) where
   -- An access is what the gate does with it.

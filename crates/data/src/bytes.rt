@@ -2,7 +2,7 @@
 use store::Address;
 use store::Page;
 ghost use mathlib.Core.Path.{_≡_};
-ghost use Prim.Native.Nat.{_+_, _≤_};
+ghost use Prim.Native.Nat.{_+_};
 ghost use Rattle.rules.specs.Packet.{getBytes, putBytes};
 ghost use Rattle.rules.specs.Data.{next, valueOf};
 ghost use Rattle.store.specs.Views.{used};

@@ -14,7 +14,7 @@ ghost use Rattle.state.specs.View.{view, Ready, Touches};
 ghost use Rattle.data.specs.Access.{widthOf, bytesFor};
 
 // May the access go on?
-pub enum Gate {
+enum Gate {
     Open,
     Refused(Answer),
 }

@@ -1,9 +1,9 @@
 -- What is known of a frame that is to be stored: it has a number, pages and a place in RX.
-use mathlib.Core.Path.{_≡_, refl, ap, sym, _∙_}
+use mathlib.Core.Path.{_≡_, ap, _∙_}
 use mathlib.Core.Bool.{true}
 use mathlib.Core.Logic.{⊎-elim}
 use mathlib.Core.List.{List, [], _∷_, _++_}
-use Prim.Native.Nat.{ℕ, _+_, _*_, _/_, _≤_, _<_}
+use Prim.Native.Nat.{ℕ, _+_, _≤_, _<_}
 use native.Mathlib.Omega.{arith}
 use lib.ListN.{length, getD, set, take}
 use lib.Seq.{getD-set-same, length-take-le}
@@ -13,7 +13,6 @@ use Rattle.rules.specs.Fields.{setPages, setRx}
 use Rattle.rules.specs.Packet.{putBytes}
 use Rattle.rules.specs.Receive.{Frame, stored, dataLength, countOf, pagesFor, needed, frameStatus, image, judge, stow}
 use Rattle.lists.specs.Facts.{if-not, member-cases, member-take, member-free}
-use Rattle.lists.specs.Bytes.{Below}
 use Rattle.laws.specs.Count.{distinct-few}
 use Rattle.laws.specs.Pool.{has-small, number-free, number-not-rx}
 use Rattle.laws.specs.Keeps.{Storable, storable, needs-one, needs-seven, data-short}

@@ -18,7 +18,7 @@ ghost use Rattle.state.specs.View.{view, Ready, Makes};
 ghost use Rattle.receive.specs.Arrivals.{frameOf, aborting};
 
 // What becomes of a frame; the answer's value in the order of document 01 is 0 to 5.
-pub enum Verdict {
+enum Verdict {
     Stored,
     Disabled,
     NotAccepted,

@@ -1,17 +1,14 @@
 use borrow.Author.Needs.{needs}
-use mathlib.Core.Path.{_≡_, refl, ap, sym, subst, _∙_}
+use mathlib.Core.Path.{ap}
 use mathlib.Core.Bool.{true}
-use mathlib.Core.List.{[]}
 use Prim.Native.Nat.{ℕ}
 use denote.Ref.{now}
-use lib.ListN.{getD}
 use Rattle.rules.specs.Fields.{setPointer, inRegisters}
 use Rattle.rules.specs.Data.{address, readData}
-use Rattle.store.specs.Views.{pagesOf}
 use Rattle.state.specs.declared.Answer.the-variants.{Done}
 use Rattle.state.specs.View.{view, replyOf}
 use Rattle.data.specs.Access.{widthOf}
-use Rattle.data.proofs.Gates.{Checked, refuses, goes, room}
+use Rattle.data.proofs.Gates.{Checked, checked-is, refuses, goes, room}
 use Rattle.data.proofs.read_data.Statement.{statement}
 use Rattle.data.proofs.read_data.Tie as tie
 
@@ -20,8 +17,7 @@ known : (k : tie.After-checked) → let s = k .before .before .before .before .b
     Checked (s .args .r) (s .args .map) true (widthOf (s .args .wide)) (k .before .row-of .result) (k .checked .result)
 known k =
     let m = k .before .before in
-    let s = m .before .before .before in
-    record { ready = s .pre .0; pages = k .before .row-of .ensures ∙ ap (λ (i : ℕ). getD (pagesOf (s .args .map)) i []) (m .meant .ensures); guards = k .checked .ensures }
+    checked-is (m .before .before .before .pre .0) (k .before .row-of .ensures) (m .meant .ensures) (k .checked .ensures)
 
 get-requires : tie.Need-get-requires
 unfolding address

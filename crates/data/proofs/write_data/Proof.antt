@@ -1,17 +1,15 @@
 use borrow.Author.Needs.{needs}
-use mathlib.Core.Path.{_≡_, refl, ap, ap₂, sym, subst, _∙_}
+use mathlib.Core.Path.{refl, ap, ap₂, _∙_}
 use mathlib.Core.Bool.{false}
-use mathlib.Core.List.{List, []}
+use mathlib.Core.List.{List}
 use Prim.Native.Nat.{ℕ}
-use lib.ListN.{length, getD}
-use Rattle.rules.specs.Chip.{Chip}
+use lib.ListN.{length}
 use Rattle.rules.specs.Fields.{setPointer, inRegisters}
 use Rattle.rules.specs.Data.{address, next, writeData}
-use Rattle.store.specs.Views.{pagesOf}
 use Rattle.state.specs.View.{view}
-use Rattle.data.specs.Access.{widthOf, bytesFor}
+use Rattle.data.specs.Access.{bytesFor}
 use Rattle.data.proofs.Facts.{width-bytes}
-use Rattle.data.proofs.Gates.{Checked, refuses, goes, room}
+use Rattle.data.proofs.Gates.{Checked, checked-is, refuses, goes, room}
 use Rattle.data.proofs.write_data.Statement.{statement}
 use Rattle.data.proofs.write_data.Tie as tie
 
@@ -21,11 +19,7 @@ known : (k : tie.After-checked) → let s = k .before .before .before .before .b
 known k =
     let m = k .before .before in
     let s = m .before .before .before in
-    record {
-      ready = s .pre .0;
-      pages = k .before .row-of .ensures ∙ ap (λ (i : ℕ). getD (pagesOf (s .args .map)) i []) (m .meant .ensures);
-      guards = rw (← width-bytes (s .args .wide) (s .args .value)) (k .checked .ensures);
-    }
+    checked-is (s .pre .0) (k .before .row-of .ensures) (m .meant .ensures) (rw (← width-bytes (s .args .wide) (s .args .value)) (k .checked .ensures))
 
 put-requires : tie.Need-put-requires
 unfolding address

@@ -1,5 +1,5 @@
 use borrow.Author.Needs.{needs}
-use mathlib.Core.Path.{_≡_, refl, ap}
+use mathlib.Core.Path.{refl, ap}
 use Prim.Native.Nat.{ℕ}
 use Rattle.rules.specs.Fields.{setRcr, setOverrun, inRegisters}
 use Rattle.state.specs.View.{view}

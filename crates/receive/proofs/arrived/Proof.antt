@@ -1,5 +1,5 @@
 use borrow.Author.Needs.{needs}
-use mathlib.Core.Path.{_≡_, ap, sym, _∙_}
+use mathlib.Core.Path.{_≡_, refl, ap, sym, _∙_}
 use mathlib.Core.List.{List}
 use Prim.Native.Nat.{ℕ}
 use denote.Ref.{now}
@@ -16,18 +16,26 @@ use Rattle.receive.proofs.Arrives.{refuses, goes, stays}
 use Rattle.receive.proofs.arrived.Statement.{statement}
 use Rattle.receive.proofs.arrived.Tie as tie
 
-abbrev F : tie.Start → Frame
-F s = frameOf (now (s .args .frame)) (s .args .bad-crc) (s .args .alignment)
+abbrev the-frame : tie.Start → Frame
+the-frame s = frameOf (now (s .args .frame)) (s .args .bad-crc) (s .args .alignment)
 
 abbrev chip : tie.Start → Chip
 chip s = view (s .args .r) (s .args .map) (now (s .args .memory))
 
 -- the arrival is by the verdict at hand
 told : (j : tie.After-judged) (v : Verdict) {mem : List ℕ} {x : Stepped} → let s = j .before .before .before .before in
-    j .judged .result ≡ v → Makes (gives (valueFor (arrivalOf v)) (after (arrivalOf v) (F s) (chip s))) mem x → Makes (arrive (F s) (chip s)) mem x
+    j .judged .result ≡ v → Makes (gives (valueFor (arrivalOf v)) (after (arrivalOf v) (the-frame s) (chip s))) mem x → Makes (arrive (the-frame s) (chip s)) mem x
 told j v e t =
     let s = j .before .before .before .before in
-    rw (goes (s .args .r) (s .args .map) (s .pre .0) (now (s .args .memory)) (F s) (j .before .if1 .left) v (sym (ap arrivalOf e) ∙ j .judged .ensures)) t
+    rw (goes (s .args .r) (s .args .map) (s .pre .0) (now (s .args .memory)) (the-frame s) (j .before .if1 .left) v (sym (ap arrivalOf e) ∙ j .judged .ensures)) t
+
+-- the answer is all that there is of it
+unchanged : (j : tie.After-judged) (v : Verdict) (k : ℕ) {x : Stepped} → let s = j .before .before .before .before in
+    j .judged .result ≡ v → gives (valueFor (arrivalOf v)) (after (arrivalOf v) (the-frame s) (chip s)) ≡ gives k (chip s)
+    → x ≡ record { answer = Done k; registers = s .args .r; pages = s .args .map } → Makes (arrive (the-frame s) (chip s)) (now (s .args .memory)) x
+unchanged j v k e g h =
+    let s = j .before .before .before .before in
+    told j v e (rw g (stays (s .args .r) (s .args .map) (s .pre .0) (now (s .args .memory)) (Done k) _ h))
 
 stowed-requires : tie.Need-stowed-requires
 stowed-requires c κs =
@@ -38,7 +46,7 @@ stowed-requires c κs =
 returns : tie.Need-returns
 returns c =
     let s = c .before .before .before .before in
-    rw (refuses (s .args .r) (s .args .map) (s .pre .0) (now (s .args .memory)) (F s) (c .before .if1 .taken))
+    rw (refuses (s .args .r) (s .args .map) (s .pre .0) (now (s .args .memory)) (the-frame s) (c .before .if1 .taken))
     (stays (s .args .r) (s .args .map) (s .pre .0) _ OutsideLimits _ (c .make-stepped .ensures))
 
 returns-2 : tie.Need-returns-2
@@ -49,17 +57,11 @@ returns-2 c =
 
 returns-3 : tie.Need-returns-3
 unfolding valueFor after
-returns-3 c =
-    let j = c .before .before .before in
-    let s = j .before .before .before .before in
-    told j Disabled (c .before .enum-told2 .given .1) (stays (s .args .r) (s .args .map) (s .pre .0) _ (Done 1) _ (c .make-stepped2 .ensures))
+returns-3 c = unchanged (c .before .before .before) Disabled 1 (c .before .enum-told2 .given .1) refl (c .make-stepped2 .ensures)
 
 returns-4 : tie.Need-returns-4
 unfolding valueFor after
-returns-4 c =
-    let j = c .before .before .before in
-    let s = j .before .before .before .before in
-    told j NotAccepted (c .before .enum-told3 .given .1) (stays (s .args .r) (s .args .map) (s .pre .0) _ (Done 2) _ (c .make-stepped3 .ensures))
+returns-4 c = unchanged (c .before .before .before) NotAccepted 2 (c .before .enum-told3 .given .1) refl (c .make-stepped3 .ensures)
 
 returns-5 : tie.Need-returns-5
 unfolding valueFor after
@@ -67,10 +69,7 @@ returns-5 c = told (c .before .before .before) TooLong (c .before .enum-told4 .g
 
 returns-6 : tie.Need-returns-6
 unfolding valueFor after
-returns-6 c =
-    let j = c .before .before .before in
-    let s = j .before .before .before .before in
-    told j Bad (c .before .enum-told5 .given .1) (stays (s .args .r) (s .args .map) (s .pre .0) _ (Done 4) _ (c .make-stepped4 .ensures))
+returns-6 c = unchanged (c .before .before .before) Bad 4 (c .before .enum-told5 .given .1) refl (c .make-stepped4 .ensures)
 
 returns-7 : tie.Need-returns-7
 unfolding valueFor after

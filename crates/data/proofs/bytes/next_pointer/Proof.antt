@@ -1,8 +1,7 @@
 use borrow.Author.Needs.{needs}
 use native.Mathlib.Omega.{arith}
 use Rattle.rules.specs.Data.{advance, next}
-use mathlib.Core.Path.{_≡_, refl, ap, sym, _∙_}
-use Prim.Native.Nat.{ℕ}
+use mathlib.Core.Path.{sym, _∙_}
 use Rattle.data.proofs.Facts.{width-small}
 use Rattle.data.proofs.bytes.next_pointer.Statement.{statement}
 use Rattle.data.proofs.bytes.next_pointer.Tie as tie

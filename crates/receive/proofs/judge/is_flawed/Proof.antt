@@ -1,4 +1,3 @@
-use borrow.Author.Needs.{needs}
 use Rattle.receive.proofs.judge.is_flawed.Statement.{statement}
 use Rattle.receive.proofs.judge.is_flawed.Tie as tie
 

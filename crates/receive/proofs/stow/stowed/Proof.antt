@@ -1,16 +1,15 @@
 use borrow.Author.Needs.{needs}
 use mathlib.Core.Path.{_≡_, refl, ap, ap₂, sym, _∙_}
-use mathlib.Core.List.{List, [], _∷_, _++_}
+use mathlib.Core.List.{[], _∷_, _++_}
 use Prim.Native.Nat.{ℕ, _≤_, _<_}
 use native.Mathlib.Omega.{arith}
 use denote.Ref.{now}
 use lib.ListN.{length, getD, set, take}
 use Rattle.rules.specs.Lists.{firstEmpty, freeBelow}
-use Rattle.rules.specs.Receive.{Frame, dataLength, needed, countOf}
+use Rattle.rules.specs.Receive.{Frame, dataLength, needed}
 use Rattle.laws.specs.Keeps.{data-short}
 use Rattle.store.specs.Views.{used, pagesOf, entries}
 use Rattle.store.proofs.Facts.{entries-length}
-use Rattle.packet.specs.Room.{Room}
 use Rattle.state.specs.View.{registersOf}
 use Rattle.receive.specs.Arrivals.{frameOf}
 use Rattle.receive.proofs.Facts.{data-by, needed-by}
@@ -18,8 +17,8 @@ use Rattle.receive.proofs.Storing as storing
 use Rattle.receive.proofs.stow.stowed.Statement.{statement}
 use Rattle.receive.proofs.stow.stowed.Tie as tie
 
-abbrev F : tie.Start → Frame
-F s = frameOf (now (s .args .frame)) (s .args .badcrc) (s .args .alignment)
+abbrev the-frame : tie.Start → Frame
+the-frame s = frameOf (now (s .args .frame)) (s .args .badcrc) (s .args .alignment)
 
 abbrev data-of : tie.Start → ℕ
 data-of s = dataLength (registersOf (s .args .r)) (length (now (s .args .frame)))
@@ -37,17 +36,17 @@ is-need p =
     needed-by (registersOf (d .before .before .before .args .r)) _ _ _ (d .data-length .ensures) (p .pages-for .ensures)
 
 data-few : (d : tie.After-data-length) → d .data-length .result ≤ 1532
-data-few d = let s = d .before .before .before in omega (arith, is-data d, storing.data-few (s .args .r) (s .args .map) (s .pre .0) (F s) (s .pre .3))
+data-few d = let s = d .before .before .before in omega (arith, is-data d, storing.data-few (s .args .r) (s .args .map) (s .pre .0) (the-frame s) (s .pre .3))
 
 number-small : (l : tie.After-lowest-unallocated) → l .lowest-unallocated .result < 24
 number-small l =
     let s = l .before .before .before .before in
-    omega (arith, l .lowest-unallocated .ensures, storing.number-small (s .args .r) (s .args .map) (s .pre .0) (F s) (s .pre .3))
+    omega (arith, l .lowest-unallocated .ensures, storing.number-small (s .args .r) (s .args .map) (s .pre .0) (the-frame s) (s .pre .3))
 
 granted-requires : tie.Need-granted-requires
 granted-requires c κs =
     let s = c .before .before .before .before .before in
-    (number-small (c .before), omega (arith, is-need c, storing.need-few (s .args .r) (s .args .map) (s .pre .0) (F s) (s .pre .3)), s .pre .0 .map)
+    (number-small (c .before), omega (arith, is-need c, storing.need-few (s .args .r) (s .args .map) (s .pre .0) (the-frame s) (s .pre .3)), s .pre .0 .map)
 
 -- the map has the grant, and the row is it
 is-granted : (g : tie.After-granted) → let s = g .before .before .before .before .before .before in
@@ -62,7 +61,7 @@ is-row : (o : tie.After-row-of) → let s = o .before .before .before .before .b
 is-row o =
     let g = o .before in
     let s = g .before .before .before .before .before .before in
-    storing.row-is (s .args .r) (s .args .map) (s .pre .0) (F s) (s .pre .3) _ _ (is-granted g)
+    storing.row-is (s .args .r) (s .args .map) (s .pre .0) (the-frame s) (s .pre .3) _ _ (is-granted g)
     (o .row-of .ensures ∙ ap (λ (k : ℕ). getD (pagesOf (g .granted .result)) k []) (g .before .before .lowest-unallocated .ensures))
 
 store-frame-requires : tie.Need-store-frame-requires
@@ -71,14 +70,14 @@ store-frame-requires c κs =
     let d = o .before .before .before .before in
     let s = d .before .before .before in (
       omega (arith, is-data d, data-short (registersOf (s .args .r)) (length (now (s .args .frame)))),
-      rw (is-data d) (storing.room (s .args .r) (s .args .map) (s .pre .0) (F s) (s .pre .3) _ _ (is-row o) (s .pre .1)),
+      rw (is-data d) (storing.room (s .args .r) (s .args .map) (s .pre .0) (the-frame s) (s .pre .3) _ _ (is-row o) (s .pre .1)),
     )
 
 push-requires : tie.Need-push-requires
 push-requires c κs =
     let s = c .before .before .before .before .before .before .before .before .before .before .before .before .before .before in
     let q = s .pre .0 .queues .rx in
-    (omega (arith, entries-length (s .args .r .rx) q, storing.rx-room (s .args .r) (s .args .map) (s .pre .0) (F s) (s .pre .3)), q)
+    (omega (arith, entries-length (s .args .r .rx) q, storing.rx-room (s .args .r) (s .args .map) (s .pre .0) (the-frame s) (s .pre .3)), q)
 
 returns : tie.Need-returns
 returns c =
@@ -93,9 +92,9 @@ returns c =
     let mem = now (s .args .memory) in
     rw (c .make-stepped .ensures)
     (record {
-      chip = storing.is-stowed (s .args .r) (s .args .map) (s .pre .0) (F s) (s .pre .3) mem _ _ _ (is-granted g)
+      chip = storing.is-stowed (s .args .r) (s .args .map) (s .pre .0) (the-frame s) (s .pre .3) mem _ _ _ (is-granted g)
           (u .push .ensures .0 ∙ ap (λ (k : ℕ). entries (s .args .r .rx) ++ (k ∷ [])) (l .lowest-unallocated .ensures))
-          (storing.written (s .args .r) (s .args .map) (s .pre .0) (F s) (s .pre .3) mem _ _ _ _ _ (f .store-frame .ensures) (t .status-of .ensures) (f .before .count-of .ensures) (is-data (l .before)) (is-row o));
+          (storing.written (s .args .r) (s .args .map) (s .pre .0) (the-frame s) (s .pre .3) mem _ _ _ _ _ (f .store-frame .ensures) (t .status-of .ensures) (f .before .count-of .ensures) (is-data (l .before)) (is-row o));
       reply = refl;
       queues = record { rx = u .push .ensures .1; tx = q .tx; done = q .done };
       map = g .granted .ensures .1;
