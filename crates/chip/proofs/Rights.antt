@@ -16,7 +16,6 @@ use Rattle.rules.specs.Step.{Input, driver, frame, sent, stepOn, step}
 use Rattle.laws.specs.Fit.{step-fit}
 use Rattle.laws.specs.Keeps.{keeps}
 use Rattle.store.specs.declared.Page.{Page}
-use Rattle.store.specs.Views.{SoundMap}
 use Rattle.state.specs.declared.Registers.{Registers}
 use Rattle.state.specs.declared.Stepped.{Stepped}
 use Rattle.state.specs.declared.Touched.{Touched}
@@ -24,6 +23,7 @@ use Rattle.state.specs.declared.Answer.{Answer}
 use Rattle.state.specs.View.{view, replyOf, Ready, Makes, Touches}
 use Rattle.state.specs.declared.Answer.the-variants.{Damaged}
 use Rattle.state.specs.Promise.{InOrder, Right, Answers}
+use Rattle.chip.specs.Entry.{besideMap}
 
 -- the step of a turn
 abbrev pub stepIn : Turn → Step
@@ -52,6 +52,10 @@ module _ (r : Registers) (m : List (List Page)) (mem : List ℕ) (o : InOrder r 
   unfolding stepOn
   right-access a x mem′ p = right (driver a) [] x mem′ [] p refl
 
+  -- one that left the page map, beside that map
+  pub right-touched : (a : Access) (t : Touched) (mem′ : List ℕ) → Touches (access a (view r m mem)) m mem′ t → Right (step (driver a) (view r m mem) []) (besideMap t m) mem′ []
+  right-touched a t mem′ p = right-access a (besideMap t m) mem′ (record { chip = p .chip; reply = p .reply; queues = p .queues; map = o .ready .map })
+
   pub right-frame : (f : Frame) (x : Stepped) (mem′ : List ℕ) → Makes (arrive f (view r m mem)) mem′ x → Right (step (frame f) (view r m mem) []) x mem′ []
   unfolding stepOn
   right-frame f x mem′ p = right (frame f) [] x mem′ [] p refl
@@ -77,16 +81,17 @@ not-in d e p = true≢false (sym (d .complete p) ∙ not-true _ e)
 pub is-in : {b : Bool} {P : Type 0} → Decides b P → not b ≡ false → P
 is-in d e = d .sound (not-false _ e)
 
--- A step that left the page map, beside that map.
-pub touched : (s : Step) (m : List (List Page)) (mem : List ℕ) (t : Touched) (x : Stepped) → SoundMap m → Touches s m mem t
-    → x ≡ record { answer = t .answer; registers = t .registers; pages = m } → Makes s mem x
-touched s m mem t x h p e = rw e (record { chip = p .chip; reply = p .reply; queues = p .queues; map = h })
+-- A step that leaves the chip, and with it the page map.
+pub unmoved : (a : Answer) (r : Registers) (m : List (List Page)) (mem : List ℕ) (t : Touched) → Ready r m → t ≡ record { answer = a; registers = r }
+    → Touches (record { reply = replyOf a; chip = view r m mem }) m mem t
+unmoved a r m mem t w e = rw e (record { chip = refl; reply = refl; queues = w .queues })
 
--- A step that leaves the chip.
-pub unchanged : (a : Answer) (r : Registers) (m : List (List Page)) (mem : List ℕ) (x : Stepped) → Ready r m → x ≡ record { answer = a; registers = r; pages = m }
-    → Makes (record { reply = replyOf a; chip = view r m mem }) mem x
-unchanged a r m mem x w e = rw e (record { chip = refl; reply = refl; queues = w .queues; map = w .map })
-
--- What makes a step makes the same step said otherwise.
+-- A step said otherwise is the same step.
 pub made-as : {s t : Step} {mem : List ℕ} {x : Stepped} → s ≡ t → Makes t mem x → Makes s mem x
 made-as {mem = m} {x = y} e = subst (λ (k : Step). Makes k m y) (sym e)
+
+pub touches-as : {s t : Step} {m : List (List Page)} {mem : List ℕ} {x : Touched} → s ≡ t → Touches t m mem x → Touches s m mem x
+touches-as {m = n} {mem = l} {x = y} e = subst (λ (k : Step). Touches k n l y) (sym e)
+
+pub right-as : {t : Turn} {x y : Stepped} {mem out : List ℕ} → x ≡ y → Right t y mem out → Right t x mem out
+right-as {t = t} {mem = m} {out = o} e = subst (λ (z : Stepped). Right t z m o) (sym e)

@@ -10,6 +10,7 @@ use Rattle.rules.specs.Registers as rules
 use Rattle.store.specs.declared.Page.{Page}
 use Rattle.state.specs.declared.Registers.{Registers}
 use Rattle.state.specs.declared.Stepped.{Stepped}
+use Rattle.state.specs.declared.Touched.{Touched}
 use Rattle.state.specs.View.{view, Ready}
 use Rattle.state.specs.Promise.{InOrder}
 use Rattle.registers.specs.Meaning.{widthOf}
@@ -19,6 +20,10 @@ use Rattle.chip.specs.declared.accesses.Request.the-variants.{Read, Writ
 abbrev pub accessOf : Request → rules.Access
 accessOf (Read w o) = rules.read (widthOf w) o
 accessOf (Write w o v) = rules.write (widthOf w) o v
+
+-- a step that left the page map, beside that map
+abbrev pub besideMap : Touched → List (List Page) → Stepped
+besideMap t m = record { answer = t .answer; registers = t .registers; pages = m }
 
 -- what power-up leaves, beside 6,144 zero bytes
 pub record Started (s : Stepped) : Type 0 where

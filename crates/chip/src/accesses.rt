@@ -1,19 +1,24 @@
 // Accesses to the sixteen I/O addresses: on a chip that is in order, and on any record.
 use crate::order::in_order;
-use crate::reads::read_reached;
-use crate::writes::write_reached;
+use crate::reads::read;
+use crate::writes::Write;
+use crate::writes::write_moving;
+use crate::writes::write_of;
+use crate::writes::write_still;
 use registers::Width;
 use state::Answer;
 use state::Registers;
 use state::Stepped;
+use state::Touched;
 use store::Page;
+ghost use mathlib.Core.Path.{_≡_};
 ghost use mathlib.Core.List.{[]};
 ghost use Rattle.rules.specs.Registers as registers;
 ghost use Rattle.rules.specs.Step as rules;
 ghost use Rattle.registers.specs.Meaning.{widthOf};
-ghost use Rattle.state.specs.View.{view, Makes};
+ghost use Rattle.state.specs.View.{view};
 ghost use Rattle.state.specs.Promise.{InOrder, Right, Answers};
-ghost use Rattle.chip.specs.Entry.{accessOf};
+ghost use Rattle.chip.specs.Entry.{accessOf, besideMap};
 
 // What a driver asks for: a width and an offset, and the value of a write.
 pub enum Request {
@@ -21,18 +26,16 @@ pub enum Request {
     Write(Width, u8, u16),
 }
 
-fn read_at(r: Registers, map: [[Page; 8]; 24], memory: &[u8], width: Width, offset: u8) -> Stepped
-    requires { ⌜ InOrder r map (now memory) ⌝ }
-    ensures { λ s. ⌜ Makes (registers.access (registers.read (widthOf width) offset) (view r map (now (memory .entry)))) (now (memory .entry)) s ⌝ }
+// A step that left the page map.
+fn beside(t: Touched, map: [[Page; 8]; 24]) -> Stepped
+    ensures { λ s. ⌜ s ≡ besideMap t map ⌝ }
 {
-    if registers::misplaced(width, offset) {
-        return state::make_stepped(Answer::Misplaced, r, map);
-    }
-    let reached = registers::register_at(r.bank, offset);
-    read_reached(reached, registers::part_at(width, offset), r, map, memory)
+    let answer = t.answer;
+    let registers = t.registers;
+    state::make_stepped(answer, registers, map)
 }
 
-fn write_at(
+fn written(
     r: Registers,
     map: [[Page; 8]; 24],
     memory: &mut [u8],
@@ -41,20 +44,13 @@ fn write_at(
     value: u16,
 ) -> Stepped
     requires { ⌜ InOrder r map (now memory) ⌝ }
-    ensures { λ s. ⌜ Makes (registers.access (registers.write (widthOf width) offset value) (view r map (now (memory .entry)))) (now (memory .exit)) s ⌝ }
+    ensures { λ s. ⌜ Right (rules.step (rules.driver (registers.write (widthOf width) offset value)) (view r map (now (memory .entry))) []) s (now (memory .exit)) [] ⌝ }
 {
-    if registers::misplaced(width, offset) {
-        return state::make_stepped(Answer::Misplaced, r, map);
+    let write = write_of(r.bank, width, offset, value);
+    match write {
+        Write::Still(still) => beside(write_still(still, r, map, memory), map),
+        Write::Moving(moving) => write_moving(moving, r, map),
     }
-    let reached = registers::register_at(r.bank, offset);
-    write_reached(
-        reached,
-        registers::part_at(width, offset),
-        value,
-        r,
-        map,
-        memory,
-    )
 }
 
 // The step below the public entry: no check is repeated here.
@@ -63,8 +59,8 @@ pub fn accessed(r: Registers, map: [[Page; 8]; 24], memory: &mut [u8], a: Reques
     ensures { λ s. ⌜ Right (rules.step (rules.driver (accessOf a)) (view r map (now (memory .entry))) []) s (now (memory .exit)) [] ⌝ }
 {
     match a {
-        Request::Read(width, offset) => read_at(r, map, memory, width, offset),
-        Request::Write(width, offset, value) => write_at(r, map, memory, width, offset, value),
+        Request::Read(width, offset) => beside(read(r, map, memory, width, offset), map),
+        Request::Write(width, offset, value) => written(r, map, memory, width, offset, value),
     }
 }
 

@@ -1,25 +1,29 @@
-// Reads of what an access reaches, on a chip that is in order.
+// Reads, on a chip that is in order. None moves a page.
 use registers::Part;
 use registers::Reached;
+use registers::Width;
 use state::Answer;
 use state::Registers;
-use state::Stepped;
 use state::Touched;
 use store::Page;
 ghost use mathlib.Core.Path.{_≡_};
+ghost use mathlib.Core.List.{[]};
 ghost use Rattle.rules.specs.Registers as rules;
-ghost use Rattle.registers.specs.Meaning.{partOf, registerOf, Known};
-ghost use Rattle.state.specs.View.{view, Makes};
-ghost use Rattle.state.specs.Promise.{InOrder};
+ghost use Rattle.rules.specs.Step as steps;
+ghost use Rattle.registers.specs.Meaning.{widthOf, partOf, registerOf, Known};
+ghost use Rattle.state.specs.View.{view, Touches};
+ghost use Rattle.state.specs.Promise.{InOrder, Right};
 ghost use Rattle.chip.specs.Parts.{wide};
+ghost use Rattle.chip.specs.Entry.{besideMap};
 
-// A step that left the page map.
-pub fn beside(t: Touched, map: [[Page; 8]; 24]) -> Stepped
-    ensures { λ s. ⌜ s ≡ record { answer = t .answer; registers = t .registers; pages = map } ⌝ }
+// The answer alone: nothing changes.
+pub fn unchanged(answer: Answer, r: Registers) -> Touched
+    ensures { λ t. ⌜ t ≡ record { answer = answer; registers = r } ⌝ }
 {
-    let answer = t.answer;
-    let registers = t.registers;
-    state::make_stepped(answer, registers, map)
+    Touched {
+        answer,
+        registers: r,
+    }
 }
 
 pub fn is_wide(part: Part) -> bool
@@ -32,21 +36,33 @@ pub fn is_wide(part: Part) -> bool
     }
 }
 
-pub fn read_reached(
+fn read_reached(
     reached: Reached,
     part: Part,
     r: Registers,
     map: [[Page; 8]; 24],
     memory: &[u8],
-) -> Stepped
+) -> Touched
     requires { ⌜ Known reached × InOrder r map (now memory) ⌝ }
-    ensures { λ s. ⌜ Makes (rules.readRegister (registerOf reached) (partOf part) (view r map (now (memory .entry)))) (now (memory .entry)) s ⌝ }
+    ensures { λ t. ⌜ Touches (rules.readRegister (registerOf reached) (partOf part) (view r map (now (memory .entry)))) map (now (memory .entry)) t ⌝ }
 {
     match reached {
-        Reached::Absent => state::make_stepped(Answer::NotModelled, r, map),
-        Reached::Command => state::make_stepped(Answer::Done(0), r, map),
-        Reached::Data => beside(data::read_data(r, map, memory, is_wide(part)), map),
-        Reached::Rcr => beside(registers::read_rcr(part, r), map),
-        Reached::Plain(place) => beside(registers::read_plain(place, part, r, map), map),
+        Reached::Absent => unchanged(Answer::NotModelled, r),
+        Reached::Command => unchanged(Answer::Done(0), r),
+        Reached::Data => data::read_data(r, map, memory, is_wide(part)),
+        Reached::Rcr => registers::read_rcr(part, r),
+        Reached::Plain(place) => registers::read_plain(place, part, r, map),
     }
+}
+
+// A read below the public entry: no check is repeated here.
+pub fn read(r: Registers, map: [[Page; 8]; 24], memory: &[u8], width: Width, offset: u8) -> Touched
+    requires { ⌜ InOrder r map (now memory) ⌝ }
+    ensures { λ t. ⌜ Right (steps.step (steps.driver (rules.read (widthOf width) offset)) (view r map (now (memory .entry))) []) (besideMap t map) (now (memory .entry)) [] ⌝ }
+{
+    if registers::misplaced(width, offset) {
+        return unchanged(Answer::Misplaced, r);
+    }
+    let reached = registers::register_at(r.bank, offset);
+    read_reached(reached, registers::part_at(width, offset), r, map, memory)
 }

@@ -16,12 +16,13 @@ use Rattle.rules.specs.Bench as rules
 use Rattle.store.specs.declared.Page.{Page}
 use Rattle.state.specs.declared.Registers.{Registers}
 use Rattle.state.specs.declared.Stepped.{Stepped}
+use Rattle.state.specs.declared.Touched.{Touched}
+use Rattle.state.specs.declared.Answer.{Answer}
 use Rattle.state.specs.declared.Answer.the-variants.{CutShort}
 use Rattle.state.specs.View.{view, replyOf}
 use Rattle.state.specs.Promise.{InOrder, Right}
-use Rattle.records.specs.declared.event.Event.{Event}
-use Rattle.records.specs.Event.{meant}
 use Rattle.records.specs.Gathers.{holding}
+use Rattle.chip.specs.Entry.{besideMap}
 use Rattle.serving.specs.Turns.{Held, Turns, Gathered}
 
 -- Accesses and frames do not look at the output buffer, and leave it.
@@ -76,30 +77,20 @@ module _ (r : Registers) (m : List (List Page)) (mem wire : List ℕ) (have : �
   unfolding rules.answer
   send-turns s x mem′ out′ p = stepping (sent s) have x mem′ out′ (h .few) p
 
-  pub unknown-turns : (x : Stepped) → x ≡ record { answer = CutShort; registers = r; pages = m } → Turns (rules.answer rules.unknown (holding (view r m mem) (take have wire) out)) x mem wire have out
+  pub unknown-turns : (t : Touched) → t ≡ record { answer = CutShort; registers = r }
+      → Turns (rules.answer rules.unknown (holding (view r m mem) (take have wire) out)) (besideMap t m) mem wire have out
   unfolding rules.answer
-  unknown-turns x e = rw e (record { reply = refl; bench = refl; held = h })
+  unknown-turns t e = rw e (record { reply = refl; bench = refl; held = h })
 
-  pub wire-turns : (count : ℕ) (bytes : List ℕ) (x : Stepped) (wire′ : List ℕ) (have′ : ℕ) → Gathered r m wire have bytes count x wire′ have′
-      → Turns (rules.answer (rules.wire count (drop 2 bytes)) (holding (view r m mem) (take have wire) out)) x mem wire′ have′ out
+  pub wire-turns : (count : ℕ) (bytes : List ℕ) (a : Answer) (t : Touched) (wire′ : List ℕ) (have′ : ℕ) → t ≡ record { answer = a; registers = r } → Gathered wire have bytes count a wire′ have′
+      → Turns (rules.answer (rules.wire count (drop 2 bytes)) (holding (view r m mem) (take have wire) out)) (besideMap t m) mem wire′ have′ out
   unfolding rules.answer
-  wire-turns count bytes x wire′ have′ g =
-      let e = g .rule (view r m mem) out in
-      let v : view (x .registers) (x .pages) mem ≡ view r m mem = λ j. view (g .registers j) (g .pages j) mem in
-      rw e (record {
-        reply = refl;
-        bench = ap (λ (c : Chip). holding c (take have′ wire′) out) v;
-        held = record { chip = λ-order (g .registers) (g .pages); room = g .room; few = g .few };
-      })
-    where
-      λ-order : {r′ : Registers} {m′ : List (List Page)} → r′ ≡ r → m′ ≡ m → InOrder r′ m′ mem
-      λ-order p q = rw (p, q) (h .chip)
+  wire-turns count bytes a t wire′ have′ e g =
+      rw (e, g .rule (view r m mem) out) (record { reply = refl; bench = refl; held = record { chip = h .chip; room = g .room; few = g .few } })
 
--- The event at hand is the record's.
-pub as-told : {e k : Event} (bytes : List ℕ) (b : rules.Bench) {x : Stepped} {mem wire : List ℕ} {have : ℕ} {out : List ℕ} → meant e bytes ≡ rules.eventOf bytes → e ≡ k
-    → Turns (rules.answer (meant k bytes) b) x mem wire have out → Turns (rules.answer (rules.eventOf bytes) b) x mem wire have out
-as-told bytes b {x} {mem} {wire} {have} {out} p q t =
-    rw (sym p ∙ ap (λ (k : Event). meant k bytes) q) t
+-- An event said otherwise is the same event.
+pub turns-as : {e k : rules.Event} (b : rules.Bench) {x : Stepped} {mem wire : List ℕ} {have : ℕ} {out : List ℕ} → e ≡ k → Turns (rules.answer k b) x mem wire have out → Turns (rules.answer e b) x mem wire have out
+turns-as b {x} {mem} {wire} {have} {out} q = subst (λ (k : rules.Event). Turns (rules.answer k b) x mem wire have out) (sym q)
 
 -- No wire byte is held any more.
 pub none-left : {a : rules.Answered} {x : Stepped} {mem wire : List ℕ} {have : ℕ} {out : List ℕ} → have ≡ 0 → Turns a x mem wire 0 out → Turns a x mem wire have out

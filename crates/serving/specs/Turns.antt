@@ -4,10 +4,12 @@ use mathlib.Core.List.{List}
 use Prim.Native.Nat.{ℕ, _≤_}
 use lib.ListN.{length, take, drop}
 use Rattle.rules.specs.Chip.{Chip}
-use Rattle.rules.specs.Bench.{Answered, gather}
+use Rattle.rules.specs.Bench as rules
+use Rattle.rules.specs.Bench.{gather}
 use Rattle.store.specs.declared.Page.{Page}
 use Rattle.state.specs.declared.Registers.{Registers}
 use Rattle.state.specs.declared.Stepped.{Stepped}
+use Rattle.state.specs.declared.Answer.{Answer}
 use Rattle.state.specs.View.{view, replyOf}
 use Rattle.state.specs.Promise.{InOrder}
 use Rattle.records.specs.Gathers.{holding}
@@ -19,15 +21,13 @@ pub record Held (r : Registers) (m : List (List Page)) (mem wire : List ℕ) (ha
   pub few : have ≤ 2048
 
 -- x is returned, and memory, wire bytes and output are then these
-pub record Turns (a : Answered) (x : Stepped) (mem wire : List ℕ) (have : ℕ) (out : List ℕ) : Type 0 where
+pub record Turns (a : rules.Answered) (x : Stepped) (mem wire : List ℕ) (have : ℕ) (out : List ℕ) : Type 0 where
   pub reply : replyOf (x .answer) ≡ a .reply
   pub bench : holding (view (x .registers) (x .pages) mem) (take have wire) out ≡ a .bench
   pub held : Held (x .registers) (x .pages) mem wire have
 
--- wire bytes are gathered: registers and map stay, and for any chip beside them the rules' `gather` says this
-pub record Gathered (r : Registers) (m : List (List Page)) (wire : List ℕ) (have : ℕ) (bytes : List ℕ) (count : ℕ) (x : Stepped) (wire′ : List ℕ) (have′ : ℕ) : Type 0 where
-  pub registers : x .registers ≡ r
-  pub pages : x .pages ≡ m
-  pub rule : (c : Chip) (out : List ℕ) → gather count (drop 2 bytes) (holding c (take have wire) out) ≡ record { reply = replyOf (x .answer); bench = holding c (take have′ wire′) out }
+-- wire bytes are gathered: for any chip and output beside them the rules' `gather` says this
+pub record Gathered (wire : List ℕ) (have : ℕ) (bytes : List ℕ) (count : ℕ) (a : Answer) (wire′ : List ℕ) (have′ : ℕ) : Type 0 where
+  pub rule : (c : Chip) (out : List ℕ) → gather count (drop 2 bytes) (holding c (take have wire) out) ≡ record { reply = replyOf a; bench = holding c (take have′ wire′) out }
   pub room : length wire′ ≡ 2048
   pub few : have′ ≤ 2048

@@ -1,16 +1,26 @@
 // The records at hand: each complete one is answered, and its line joins the lines to be written.
-use crate::turn::turned;
+use crate::task::Task;
+use crate::task::task_of;
+use crate::turn::answer_moving;
+use crate::turn::answer_still;
 use state::Answer;
 use state::Registers;
 use state::Stepped;
 use store::Page;
-ghost use Prim.Native.Nat.{_+_, _≤_};
-ghost use lib.ListN.{length};
+ghost use mathlib.Core.Path.{_≡_};
+ghost use Prim.Native.Nat.{_+_, _/_, _≤_};
+ghost use lib.ListN.{length, take, drop};
+ghost use Rattle.rules.specs.Bench.{line};
+ghost use Rattle.lists.specs.Written.{Writes};
+ghost use Rattle.state.specs.View.{view, replyOf};
+ghost use Rattle.records.specs.Gathers.{holding};
 ghost use Rattle.serving.specs.Turns.{Held};
+ghost use Rattle.serving.specs.Batch.{Answered};
 
 // The eight bytes of the record at a place of the input.
 fn record_at(input: &[u8], at: usize) -> [u8; 8]
     requires { ⌜ at + 8 ≤ length (now input) ⌝ }
+    ensures { λ b. ⌜ b ≡ take 8 (drop at (now (input .entry))) ⌝ }
 {
     [
         input[at],
@@ -24,32 +34,17 @@ fn record_at(input: &[u8], at: usize) -> [u8; 8]
     ]
 }
 
-// One record: its step, and its line from `end` on.
-fn answer_one(
-    r: Registers,
-    map: [[Page; 8]; 24],
-    memory: &mut [u8],
-    wire: &mut [u8],
-    have: &mut usize,
-    out: &mut [u8],
-    bytes: [u8; 8],
-    lines: &mut [u8],
-    end: &mut usize,
-    number: u64,
-) -> Stepped
-    requires { ⌜ Held r map (now memory) (now wire) (now have) ⌝ }
-    requires { ⌜ now end + 40 ≤ length (now lines) ⌝ }
-    ensures { λ x. ⌜ Held (x .registers) (x .pages) (now (memory .exit)) (now (wire .exit)) (now (have .exit)) ⌝ }
-    ensures { λ x. ⌜ now (end .exit) ≤ now (end .entry) + 30 ⌝ }
+// The line of a record, which is counted; returns the place behind the line.
+fn print(lines: &mut [u8], at: usize, number: &mut u64, answer: Answer) -> usize
+    requires { ⌜ (at + 40 ≤ length (now lines)) × (now number + 1 ≤ 0xffffffffffffffff) ⌝ }
+    ensures { λ end. ⌜ Writes (now (lines .entry)) at (line (now (number .entry)) (replyOf answer)) (now (lines .exit)) end × (end ≤ at + 30) × (now (number .exit) ≡ now (number .entry) + 1) ⌝ }
 {
-    let s = turned(r, map, memory, wire, have, out, bytes);
-    let answer = s.answer;
-    let shown = state::printed(answer);
-    *end = records::line_at(lines, *end, number, shown);
-    s
+    let end = records::line_at(lines, at, *number, state::printed(answer));
+    *number += 1;
+    end
 }
 
-// Each complete record of the input, from record `number` on; the lines stand before `end`.
+// Each complete record of the input; the lines stand before `end`.
 pub fn answer_all(
     r: Registers,
     map: [[Page; 8]; 24],
@@ -63,8 +58,8 @@ pub fn answer_all(
     number: &mut u64,
 ) -> Stepped
     requires { ⌜ Held r map (now memory) (now wire) (now have) ⌝ }
-    requires { ⌜ (length (now input) ≤ 4096) × (16384 ≤ length (now lines)) ⌝ }
-    ensures { λ x. ⌜ Held (x .registers) (x .pages) (now (memory .exit)) (now (wire .exit)) (now (have .exit)) ⌝ }
+    requires { ⌜ (length (now input) ≤ 4096) × (16384 ≤ length (now lines)) × (now number + 512 ≤ 0xffffffffffffffff) ⌝ }
+    ensures { λ x. ⌜ Answered (length (now (input .entry)) / 8) (now (number .entry)) (now (input .entry)) (holding (view r map (now (memory .entry))) (take (now (have .entry)) (now (wire .entry))) (now (out .entry))) (x .registers) (x .pages) (now (memory .exit)) (now (wire .exit)) (now (have .exit)) (now (out .exit)) (now (lines .exit)) (now (end .exit)) (now (number .exit)) ⌝ }
     ensures { λ x. ⌜ now (end .exit) ≤ 16384 ⌝ }
 {
     let mut registers = r;
@@ -73,22 +68,24 @@ pub fn answer_all(
     *end = 0;
     while at + 8 <= input.len() {
         let bytes = record_at(input, at);
-        let s = answer_one(
-            registers,
-            pages,
-            memory,
-            wire,
-            have,
-            out,
-            bytes,
-            lines,
-            end,
-            *number,
-        );
-        registers = s.registers;
-        pages = state::pages_of(s);
-        *number = std::num::wrapping_add_u64(*number, 1);
         at += 8;
+        let task = task_of(registers.bank, bytes);
+        match task {
+            Task::Still(still) => {
+                let t = answer_still(still, registers, pages, memory, wire, have, bytes);
+                let answer = t.answer;
+                registers = t.registers;
+                *end = print(lines, *end, number, answer);
+                continue;
+            }
+            Task::Moving(moving) => {
+                let s = answer_moving(moving, registers, pages, memory, wire, have, out);
+                let answer = s.answer;
+                registers = s.registers;
+                pages = state::pages_of(s);
+                *end = print(lines, *end, number, answer);
+            }
+        }
     }
     state::make_stepped(Answer::Done(0), registers, pages)
 }

@@ -54,7 +54,8 @@ fn cut_short(lines: &mut [u8], kept: usize, number: u64)
     write_lines(lines, end);
 }
 
-// Every record is answered before more is waited for. The loop counts its turns down from a number that no run uses up.
+// Every record is answered before more is waited for. The loop counts its turns down from a number that no run uses up, and with them
+// the record number stays within its 64 bits.
 fn serve_from(
     r: Registers,
     map: [[Page; 8]; 24],
@@ -71,9 +72,9 @@ fn serve_from(
     let mut pages = map;
     let mut have = 0;
     let mut end = 0;
-    let mut number = 1;
+    let mut number: u64 = 1;
     let mut kept = 0;
-    let mut turns = u64::MAX;
+    let mut turns: u64 = 0x40000000000000;
     while turns > 0 {
         let filled = read_more(input, kept);
         if filled == kept {

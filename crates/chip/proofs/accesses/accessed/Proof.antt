@@ -1,4 +1,3 @@
-use borrow.Author.Needs.{needs}
 use mathlib.Core.Path.{_≡_, sym, subst}
 use mathlib.Core.List.{List, []}
 use Prim.Native.Nat.{ℕ}
@@ -8,7 +7,8 @@ use Rattle.state.specs.declared.Stepped.{Stepped}
 use Rattle.state.specs.Promise.{Right}
 use Rattle.chip.specs.declared.accesses.Request.{Request}
 use Rattle.chip.specs.Entry.{accessOf}
-use Rattle.chip.proofs.Rights.{right-access}
+use Rattle.chip.proofs.Rights.{right-as}
+use borrow.Author.Needs.{needs}
 use Rattle.chip.proofs.accesses.accessed.Statement.{statement}
 use Rattle.chip.proofs.accesses.accessed.Tie as tie
 
@@ -18,22 +18,21 @@ as-told c mem {x} e = subst (λ (k : Request). Right (step (driver (accessOf k))
 
 returns : tie.Need-returns
 returns c =
-    let a = c .before .before .before in
-    let s = a .before .before .before in
-    as-told _ _ (a .a .given .1) (right-access (s .args .r) (s .args .map) (s .args .memory .now) (s .pre) _ _ _ (c .read-at .ensures))
+    let a = c .before .before .before .before in
+    as-told _ _ (a .a .given .1) (right-as (c .beside .ensures) (c .before .read .ensures))
 
 returns-2 : tie.Need-returns-2
 returns-2 c =
     let w = c .before .before in
     let a = w .before .before .before in
-    let s = a .before .before .before in
-    as-told _ _ (a .a2 .given .1) (right-access (s .args .r) (s .args .map) (s .args .memory .now) (s .pre) _ _ _ (w .write-at .ensures))
+    as-told _ _ (a .a2 .given .1) (w .written .ensures)
 
 pub accessed-spec : {M : Type 1} → statement M
 accessed-spec =
     tie.close
     (tie.spec
     (λ c. search needs)
+    (λ c κs. search needs)
     (λ c κs. search needs)
     (λ c. search needs)
     (λ c κs. search needs)

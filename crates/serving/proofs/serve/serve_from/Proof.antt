@@ -1,6 +1,6 @@
 use borrow.Author.Needs.{needs}
 use mathlib.Core.Path.{_≡_, refl, sym, _∙_}
-use Prim.Native.Nat.{_≤_, _<_}
+use Prim.Native.Nat.{_+_, _*_, _≤_, _<_}
 use native.Mathlib.Omega.{arith}
 use lib.ListN.{length}
 use lib.Seq.{length-take-le}
@@ -12,13 +12,14 @@ abbrev Inv-loop : tie.InvT-loop
 Inv-loop memory₀ wire₀ out₀ input₀ lines₀ registers₀ pages₀ have₀ end₀ number₀ kept₀ turns₀ memory wire out input lines registers pages have end number kept turns =
     Held registers pages memory wire have × (end ≤ 16384) × (kept < 8)
     × (length memory ≡ length memory₀) × (length wire ≡ length wire₀) × (length out ≡ length out₀) × (length input ≡ length input₀) × (length lines ≡ length lines₀)
+    × (number + 512 * turns ≤ 9223372036854775809)
 
 abbrev μ-loop : tie.MeasureT-loop
 μ-loop memory₀ wire₀ out₀ input₀ lines₀ registers₀ pages₀ have₀ end₀ number₀ kept₀ turns₀ memory wire out input lines registers pages have end number kept turns =
     turns
 
 loop-holds : tie.Need-loop-holds Inv-loop μ-loop
-loop-holds c = let s = c .before .before .before .before .before in (s .pre .0, search needs, search needs, refl, refl, refl, refl, refl)
+loop-holds c = let s = c .before .before .before .before .before in (s .pre .0, search needs, search needs, refl, refl, refl, refl, refl, omega arith)
 
 read-more-requires : tie.Need-read-more-requires Inv-loop μ-loop
 read-more-requires c κs = let l = c .before .before in omega (arith, l .loop .inv .2, l .loop .inv .6, l .before .before .before .before .before .before .pre .1 .0)
@@ -53,7 +54,7 @@ answer-all-requires c κs =
     let l = i .before .before .before .before in
     let v = l .loop .inv in
     let p = l .before .before .before .before .before .before .pre .1 in
-    (v .0, (omega (arith, slice-aggregate-answer-all (c .before .before .before), i .before .read-more .ensures, v .6, p .0), omega (arith, v .7, p .1)))
+    (v .0, (omega (arith, slice-aggregate-answer-all (c .before .before .before), i .before .read-more .ensures, v .6, p .0), omega (arith, v .7, p .1), omega (arith, v .8, i .before .before .before .loop-test .taken)))
 
 write-lines-requires : tie.Need-write-lines-requires Inv-loop μ-loop
 write-lines-requires c κs = let l = c .before .before .before .before .before .before .before .before .before .before .before .before .before .before .before .before .before .before .before .before .before .before .before .before .before .before in omega (arith, c .before .before .before .before .before .before .before .before .before .before .before .answer-all .ensures .1, c .before .before .before .before .lines2 .given, l .loop .inv .7, l .before .before .before .before .before .before .pre .1 .1)
@@ -86,7 +87,7 @@ loop-again : tie.Need-loop-again Inv-loop μ-loop
 loop-again c =
     let a = c .before .before .before .before .before .before .before .before .before .before .before .before .before .before .before .before .before .answer-all .ensures in
     let v = c .before .before .before .before .before .before .before .before .before .before .before .before .before .before .before .before .before .before .before .before .before .before .before .before .before .before .before .before .before .before .before .before .loop .inv in (
-      rw (c .before .before .before .before .before .before .before .pages-of .ensures) (a .0),
+      rw (c .before .before .before .before .before .before .before .pages-of .ensures) (a .0 .held),
       a .1,
       c .before .before .keep-tail .ensures,
       c .before .before .before .before .before .before .before .before .before .before .before .before .before .before .before .before .memory .given ∙ v .3,
@@ -94,6 +95,7 @@ loop-again c =
       c .before .before .before .before .before .before .before .before .before .before .before .before .out .given ∙ v .5,
       c .before .input2 .given ∙ c .before .before .before .before .before .before .before .before .before .before .before .before .before .before .before .before .before .before .before .before .before .before .before .before .before .before .before .before .input .given ∙ v .6,
       c .before .before .before .before .before .before .before .before .before .before .lines2 .given ∙ v .7,
+      omega (arith, a .0 .counted, slice-aggregate-answer-all (c .before .before .before .before .before .before .before .before .before .before .before .before .before .before .before .before .before .before .before .before .before), c .before .before .before .before .before .before .before .before .before .before .before .before .before .before .before .before .before .before .before .before .before .before .before .before .before .before .before .before .before .read-more .ensures, v .6, c .before .before .before .before .before .before .before .before .before .before .before .before .before .before .before .before .before .before .before .before .before .before .before .before .before .before .before .before .before .before .before .before .before .before .before .before .before .before .pre .1 .0, v .8, c .before .before .before .before .before .before .before .before .before .before .before .before .before .before .before .before .before .before .before .before .before .before .before .before .before .before .before .before .before .before .before .loop-test .taken),
     )
 
 same-length-11 : tie.Need-same-length-11 Inv-loop μ-loop

@@ -1,0 +1,22 @@
+use mathlib.Core.Path.{_≡_, refl, ap, ap₂, sym, _∙_}
+use Prim.Native.Nat.{ℕ}
+use native.Mathlib.Omega.{arith}
+use Rattle.rules.specs.Answers.{Reply}
+use Rattle.rules.specs.Bench.{line}
+use Rattle.lists.specs.Written.{writes-as}
+use borrow.Author.Needs.{needs}
+use Rattle.serving.proofs.batch.print.Statement.{statement}
+use Rattle.serving.proofs.batch.print.Tie as tie
+
+-- a reply is its number and its value
+reply-of : {n v : ℕ} {r : Reply} → n ≡ r .number → v ≡ r .value → record { number = n; value = v } ≡ r
+reply-of e f = λ i. record { number = e i; value = f i }
+
+returns : tie.Need-returns
+returns c =
+    let l = c .before .before in
+    let p = l .before .printed .ensures in
+    (writes-as (ap (line (l .before .before .before .before .before .args .number .now)) (reply-of (p .0) (p .1))) (l .line-at .ensures .0), l .line-at .ensures .1, refl)
+
+pub print-spec : {M : Type 1} → statement M
+print-spec = tie.close (tie.spec (λ c κs. search needs) (λ c κs. search needs) (λ c. search needs) (λ c. search needs) returns)
