@@ -19,7 +19,7 @@ known : (k : tie.After-checked) → let s = k .before .before .before .before .b
 known k =
     let m = k .before .before in
     let s = m .before .before .before in
-    checked-is (s .pre .0) (k .before .row-of .ensures) (m .meant .ensures) (rw (← width-bytes (s .args .wide) (s .args .value)) (k .checked .ensures))
+    checked-is (s .pre .0) (k .before .row-of .ensures .0) (m .meant .ensures) (rw (← width-bytes (s .args .wide) (s .args .value)) (k .checked .ensures))
 
 put-requires : tie.Need-put-requires
 unfolding address
