@@ -48,7 +48,7 @@ read-data-spec =
     (tie.spec
     (λ c κs. search needs)
     (λ c κs. search needs)
-    (λ c κs. search needs)
+    (λ c κs. c .row-of .ensures .1 (c .before .before .before .before .pre .0 .map))
     (λ c. search needs)
     (λ c. search needs)
     get-requires

@@ -53,7 +53,7 @@ write-data-spec =
     (tie.spec
     (λ c κs. search needs)
     (λ c κs. search needs)
-    (λ c κs. search needs)
+    (λ c κs. c .row-of .ensures .1 (c .before .before .before .before .pre .0 .map))
     (λ c. search needs)
     (λ c. search needs)
     put-requires
