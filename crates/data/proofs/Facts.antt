@@ -12,6 +12,10 @@ pub width-small : (wide : Bool) → widthOf wide ≤ 2
 width-small true = omega arith
 width-small false = omega arith
 
+pub width-some : (wide : Bool) → 1 ≤ widthOf wide
+width-some true = omega arith
+width-some false = omega arith
+
 -- the head of RX
 pub head-none : (l : List ℕ) → length l ≡ 0 → headOr24 l ≡ 24
 head-none [] h = refl

@@ -2,10 +2,11 @@
 use mathlib.Core.Path.{_≡_, refl, ap, sym, subst, _∙_}
 use mathlib.Core.Bool.{Bool, true, false, cond, not}
 use mathlib.Core.List.{List, [], _∷_}
-use Prim.Native.Nat.{ℕ, _+_, _*_, _%_}
+use Prim.Native.Nat.{ℕ, _+_, _*_, _%_, _≤_}
+use native.Mathlib.Decide.{decLe}
 use native.Mathlib.Omega.{arith}
-use borrow.Author.Tests.{ltb-false, ne-eqb}
-use lib.Dec.{eqb, ltb}
+use borrow.Author.Tests.{leb-true, le-leb, lt-leb, le-ltb, lt-ltb}
+use lib.Dec.{leb, ltb}
 use lib.ListN.{length, getD, List·getD-eq-default}
 use Rattle.rules.specs.Lists.{some?}
 use Rattle.rules.specs.Chip.{Chip, pagesAt}
@@ -28,47 +29,50 @@ use Rattle.data.specs.declared.Gate.{Gate}
 use Rattle.data.specs.declared.Gate.the-variants.{Open, Refused}
 use Rattle.data.specs.Access.{headOr24, meantBy, ifAny, refusedIf, firstOf, through, Guards}
 
--- The four gates in their order are the tests of the rules.
-some-count : (l : List ℕ) (k : ℕ) → k ≡ length l → some? l ≡ not (eqb k 0)
-unfolding some?
-some-count [] k e = rw e
-some-count (x ∷ xs) k e = rw (ne-eqb k 0 (omega arith))
+-- one number is below another where the other is not at most it
+ltb-not : (a b : ℕ) → ltb a b ≡ not (leb b a)
+ltb-not a b = go (decLe b a)
+  where
+    go : Dec (b ≤ a) → ltb a b ≡ not (leb b a)
+    go (yes h) = rw (le-ltb a b h, le-leb b a h)
+    go (no h) = rw (lt-ltb a b (omega arith), lt-leb b a (omega arith))
 
+-- The four gates in their order are the tests of the rules.
 abbrev gates : Bool → Bool → Bool → Bool → Answer → Gate
-gates none against odd past absent =
-    firstOf (refusedIf none absent) (firstOf (refusedIf against AgainstRead) (firstOf (refusedIf odd OddPointer) (refusedIf past PastPages)))
+gates some against odd reached absent =
+    firstOf (refusedIf (not some) absent) (firstOf (refusedIf against AgainstRead) (firstOf (refusedIf odd OddPointer) (refusedIf (not reached) PastPages)))
 
 in-order : (n a o q : Bool) (x : Answer) (k : ℕ) → replyOf x ≡ refusal k → (c : Chip) (s : Step)
-    → cond (not n) (cond a (refuse 8 c) (cond o (refuse 9 c) (cond q (refuse 10 c) s))) (refuse k c) ≡ through (gates n a o q x) c s
-in-order true a o q x k e c s = ap (λ (r : Reply). record { reply = r; chip = c }) (sym e)
-in-order false true o q x k e c s = refl
-in-order false false true q x k e c s = refl
-in-order false false false true x k e c s = refl
-in-order false false false false x k e c s = refl
+    → cond n (cond a (refuse 8 c) (cond o (refuse 9 c) (cond (not q) (refuse 10 c) s))) (refuse k c) ≡ through (gates n a o q x) c s
+in-order false a o q x k e c s = ap (λ (r : Reply). record { reply = r; chip = c }) (sym e)
+in-order true true o q x k e c s = refl
+in-order true false true q x k e c s = refl
+in-order true false false false x k e c s = refl
+in-order true false false true x k e c s = refl
 
 closed : {a : Answer} → Refused a ≡ Open → ⊥
 closed e = let z : _≡_ {A = ℕ} 0 1 = cc in omega arith
 
-open-last : (n a o q : Bool) (x : Answer) → gates n a o q x ≡ Open → q ≡ false
-open-last true a o q x e = absurd (closed e)
-open-last false true o q x e = absurd (closed e)
-open-last false false true q x e = absurd (closed e)
-open-last false false false true x e = absurd (closed e)
-open-last false false false false x e = refl
+open-last : (n a o q : Bool) (x : Answer) → gates n a o q x ≡ Open → q ≡ true
+open-last false a o q x e = absurd (closed e)
+open-last true true o q x e = absurd (closed e)
+open-last true false true q x e = absurd (closed e)
+open-last true false false false x e = absurd (closed e)
+open-last true false false true x e = refl
 
-module _ (isRead : Bool) (width p : ℕ) (row : List Page) (pages : ℕ) (absent : Answer) (e : pages ≡ length (used row)) where
-  pub guards : replyOf absent ≡ refusal (cond (rcv p) 7 5)
-      → Guards isRead width p row (gates (eqb pages 0) (against isRead p) (oddFixed p) (ltb (256 * pages) (p % 2048 + width)) absent)
-  unfolding ifAny ifOpen past address
-  guards f =
-      let n = eqb pages 0 in
-      let a = against isRead p in
-      let o = oddFixed p in
-      let q = ltb (256 * pages) (p % 2048 + width) in
-      record {
-        step = λ c s g. rw (g, some-count (used row) pages e, ← e) (in-order n a o q absent _ f (inRegisters (setPointer p) c) s);
-        room = λ g. rw (← e) (ltb-false _ _ (open-last n a o q absent g));
-      }
+-- `reached` tells whether the pages reach the end of the access
+pub guards : (isRead : Bool) (width p : ℕ) (row : List Page) (absent : Answer) {reached : Bool} {end : ℕ} → replyOf absent ≡ refusal (cond (rcv p) 7 5)
+    → reached ≡ leb end (256 * length (used row)) → end ≡ p % 2048 + width
+    → Guards isRead width p row (gates (some? (used row)) (against isRead p) (oddFixed p) reached absent)
+unfolding ifAny ifOpen past address
+guards isRead width p row absent {reached} {end} f e h =
+    let n = some? (used row) in
+    let a = against isRead p in
+    let o = oddFixed p in
+    record {
+      step = λ c s g. rw (g, ltb-not, ← h, ← e) (in-order n a o reached absent _ f (inRegisters (setPointer p) c) s);
+      room = λ g. omega (arith, leb-true end _ (sym e ∙ open-last n a o reached absent g));
+    }
 
 -- An access goes by the pages of the packet that is meant.
 module _ (c : Chip) (w : WellFormed c) (access : List ℕ → Step) where

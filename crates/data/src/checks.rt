@@ -10,7 +10,7 @@ ghost use mathlib.Core.Bool.{cond};
 ghost use Rattle.rules.specs.Answers.{refusal};
 ghost use Rattle.rules.specs.Data.{rcv, against, oddFixed};
 ghost use Rattle.state.specs.View.{replyOf};
-ghost use Rattle.store.specs.Views.{entries, SoundQueue};
+ghost use Rattle.store.specs.Views.{used, rowOf, entries, SoundQueue};
 ghost use Rattle.data.specs.Access.{widthOf, meantBy, refusedIf, firstOf, Guards};
 
 // RCV set means the head of RX, clear means the packet number register. No packet has number 24, which stands for the head of an empty RX.
@@ -78,13 +78,13 @@ fn first_of(a: Gate, b: Gate) -> Gate
 
 // The refusals in their order: 7 or 5, 8, 9, 10.
 pub fn checked(row: [Page; 8], reading: bool, wide: bool, pointer: u16) -> Gate
+    requires { ⌜ row ≡ rowOf (used row) ⌝ }
     ensures { λ g. ⌜ Guards reading (widthOf wide) pointer row g ⌝ }
 {
-    let pages = store::pages_in(row);
     let end = pointer as usize % 2048 + width_of(wide) as usize;
-    let none = refused_if(pages == 0, absent(pointer));
+    let none = refused_if(store::unused(row), absent(pointer));
     let against = refused_if(is_against(pointer, reading), Answer::AgainstRead);
     let odd = refused_if(is_odd_fixed(pointer), Answer::OddPointer);
-    let past = refused_if(256 * pages < end, Answer::PastPages);
+    let past = refused_if(!store::reaches(row, end), Answer::PastPages);
     first_of(none, first_of(against, first_of(odd, past)))
 }

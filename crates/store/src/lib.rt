@@ -24,6 +24,7 @@ pub use map::row_of;
 pub use row::holds;
 pub use row::nth_page;
 pub use row::pages_in;
+pub use row::reaches;
 pub use row::unused;
 
 // A packet number is never a page number, nor is either an address within a packet: `released(map, Page(3))` is a type error.

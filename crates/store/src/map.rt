@@ -34,9 +34,9 @@ pub fn is_owned(map: [[Page; 8]; 24], page: Page) -> bool
     owned_from(map, 0, page)
 }
 
-// The packet's row: no pages where it is not allocated.
+// The packet's row: no pages where it is not allocated. In a sound map it is as its pages have it made.
 pub fn row_of(map: [[Page; 8]; 24], packet: Packet) -> [Page; 8]
-    ensures { λ r. ⌜ used r ≡ getD (pagesOf map) (packet .0) [] ⌝ }
+    ensures { λ r. ⌜ (used r ≡ getD (pagesOf map) (packet .0) []) × (SoundMap map → r ≡ rowOf (used r)) ⌝ }
 {
     let k = packet.0 as usize;
     if 24 <= k {

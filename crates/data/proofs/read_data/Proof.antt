@@ -17,7 +17,7 @@ known : (k : tie.After-checked) → let s = k .before .before .before .before .b
     Checked (s .args .r) (s .args .map) true (widthOf (s .args .wide)) (k .before .row-of .result) (k .checked .result)
 known k =
     let m = k .before .before in
-    checked-is (m .before .before .before .pre .0) (k .before .row-of .ensures) (m .meant .ensures) (k .checked .ensures)
+    checked-is (m .before .before .before .pre .0) (k .before .row-of .ensures .0) (m .meant .ensures) (k .checked .ensures)
 
 get-requires : tie.Need-get-requires
 unfolding address
@@ -48,7 +48,7 @@ read-data-spec =
     (tie.spec
     (λ c κs. search needs)
     (λ c κs. search needs)
-    (λ c κs. search needs)
+    (λ c κs. c .row-of .ensures .1 (c .before .before .before .before .pre .0 .map))
     (λ c. search needs)
     (λ c. search needs)
     get-requires

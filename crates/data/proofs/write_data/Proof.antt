@@ -19,7 +19,7 @@ known : (k : tie.After-checked) → let s = k .before .before .before .before .b
 known k =
     let m = k .before .before in
     let s = m .before .before .before in
-    checked-is (s .pre .0) (k .before .row-of .ensures) (m .meant .ensures) (rw (← width-bytes (s .args .wide) (s .args .value)) (k .checked .ensures))
+    checked-is (s .pre .0) (k .before .row-of .ensures .0) (m .meant .ensures) (rw (← width-bytes (s .args .wide) (s .args .value)) (k .checked .ensures))
 
 put-requires : tie.Need-put-requires
 unfolding address
@@ -53,7 +53,7 @@ write-data-spec =
     (tie.spec
     (λ c κs. search needs)
     (λ c κs. search needs)
-    (λ c κs. search needs)
+    (λ c κs. c .row-of .ensures .1 (c .before .before .before .before .pre .0 .map))
     (λ c. search needs)
     (λ c. search needs)
     put-requires

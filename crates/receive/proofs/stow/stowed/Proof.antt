@@ -62,7 +62,7 @@ is-row o =
     let g = o .before in
     let s = g .before .before .before .before .before .before in
     storing.row-is (s .args .r) (s .args .map) (s .pre .0) (the-frame s) (s .pre .3) _ _ (is-granted g)
-    (o .row-of .ensures ∙ ap (λ (k : ℕ). getD (pagesOf (g .granted .result)) k []) (g .before .before .lowest-unallocated .ensures))
+    (o .row-of .ensures .0 ∙ ap (λ (k : ℕ). getD (pagesOf (g .granted .result)) k []) (g .before .before .lowest-unallocated .ensures))
 
 store-frame-requires : tie.Need-store-frame-requires
 store-frame-requires c κs =

@@ -62,7 +62,7 @@ releasing s = autoRelease (good (s .args .r .tcr) (s .args .s .outcome)) (regist
 
 -- The head's pages: a packet has 1 to 8 of them.
 paged : (o : tie.After-row-of) → pages o ≡ pagesAt (chip (start o)) (getD (entries (start o .args .r .tx)) 0 0)
-paged o = o .row-of .ensures ∙ ap (pagesAt (chip (start o))) (o .before .head .ensures)
+paged o = o .row-of .ensures .0 ∙ ap (pagesAt (chip (start o))) (o .before .head .ensures)
 
 few : (o : tie.After-row-of) → (1 ≤ length (pages o)) × (length (pages o) ≤ 8)
 few o =

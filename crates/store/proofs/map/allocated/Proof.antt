@@ -10,7 +10,7 @@ not-not true = refl
 not-not false = refl
 
 returns : tie.Need-returns
-returns c = ap not (c .unused .ensures) ∙ not-not (some? _) ∙ ap some? (c .before .row-of .ensures)
+returns c = ap not (c .unused .ensures) ∙ not-not (some? _) ∙ ap some? (c .before .row-of .ensures .0)
 
 pub allocated-spec : {M : Type 1} → statement M
 allocated-spec = tie.close (tie.spec (λ c κs. search needs) (λ c κs. search needs) returns)
