@@ -29,8 +29,16 @@ pub eight : (l : List ℕ) (i : ℕ) → i + 8 ≤ length l
 eight l i h =
     let e : i + 0 ≡ i = omega arith in
     let f : take 8 (drop i l) ≡ getD l i 0 ∷ take 7 (drop (i + 1) l) = rw e at (first-of 7 l i 0 (omega arith)) in
-    rw (f, first-of 6 l i 1 (omega arith), first-of 5 l i 2 (omega arith), first-of 4 l i 3 (omega arith), first-of 3 l i 4 (omega arith), first-of 2 l i 5 (omega arith),
-      first-of 1 l i 6 (omega arith), first-of 0 l i 7 (omega arith))
+    rw (
+      f,
+      first-of 6 l i 1 (omega arith),
+      first-of 5 l i 2 (omega arith),
+      first-of 4 l i 3 (omega arith),
+      first-of 3 l i 4 (omega arith),
+      first-of 2 l i 5 (omega arith),
+      first-of 1 l i 6 (omega arith),
+      first-of 0 l i 7 (omega arith),
+    )
 
 -- What stands before the place behind a piece of text: what stood before it, and the text.
 taken : {before after text : List ℕ} {at end : ℕ} → at ≤ length before → Writes before at text after end → take end after ≡ take at before ++ text

@@ -87,7 +87,7 @@ loop-again c =
       omega (arith, v .1),
       omega (arith, v .2, p .1),
       one-more (l .loop .at / 8) _ _ (s .args .input .now) _ (q .record-at .result) (omega arith) (record-told (l .loop .at) (s .args .input .now) (v .1) (q .record-at .ensures))
-        (omega (arith, v .2, v .7, s .pre .1 .0, s .pre .1 .1, t)) (v .3) (a .answer-still .ensures (l .loop .out)) (p .0) (p .2),
+          (omega (arith, v .2, v .7, s .pre .1 .0, s .pre .1 .1, t)) (v .3) (a .answer-still .ensures (l .loop .out)) (p .0) (p .2),
       c .before .before .before .before .before .before .before .before .before .before .memory .given ∙ v .4,
       c .before .before .before .before .before .before .before .before .wire .given ∙ v .5,
       v .6,
@@ -131,8 +131,8 @@ loop-again-2 c =
       omega (arith, v .1),
       omega (arith, v .2, p .1),
       rw (c .before .before .before .before .before .before .pages-of .ensures)
-        (one-more (l .loop .at / 8) _ _ (s .args .input .now) _ (q .record-at .result) (omega arith) (record-told (l .loop .at) (s .args .input .now) (v .1) (q .record-at .ensures))
-        (omega (arith, v .2, v .7, s .pre .1 .0, s .pre .1 .1, t)) (v .3) (a .answer-moving .ensures _ m) (p .0) (p .2)),
+          (one-more (l .loop .at / 8) _ _ (s .args .input .now) _ (q .record-at .result) (omega arith) (record-told (l .loop .at) (s .args .input .now) (v .1) (q .record-at .ensures))
+          (omega (arith, v .2, v .7, s .pre .1 .0, s .pre .1 .1, t)) (v .3) (a .answer-moving .ensures _ m) (p .0) (p .2)),
       c .before .before .before .before .before .before .before .before .before .before .before .memory2 .given ∙ v .4,
       v .5,
       c .before .before .before .before .before .before .before .before .before .out .given ∙ v .6,
