@@ -2,3 +2,4 @@
 pub mod Tasks
 pub mod Turns
 pub mod Batch
+pub mod Printed

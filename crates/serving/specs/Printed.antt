@@ -1,0 +1,62 @@
+-- The lines of the batches, one after another, are what document 01 says the bench prints.
+use mathlib.Core.Path.{_≡_, refl, ap, ap₂, sym, _∙_}
+use mathlib.Core.List.{List, [], _∷_, _++_, append-assoc, append-nil}
+use Prim.Native.Nat.{ℕ, zero, suc, _+_, _*_, _≤_, _<_}
+use native.Mathlib.Omega.{arith}
+use borrow.Author.Tests.{lt-ltb, le-ltb}
+use lib.ListN.{length, take, drop, length-drop}
+use lib.Seq.{drop-drop}
+use Rattle.rules.specs.Answers.{refusal}
+use Rattle.rules.specs.Bench.{Bench, Answered, answer, eventOf, line, printed, bench, started}
+use Rattle.serving.specs.Batch.{recordAt, benchAfter, linesFor}
+
+-- the answer to the first record
+abbrev first : List ℕ → Bench → Answered
+first input b = answer (eventOf (take 8 input)) b
+
+-- Record n + 1 is record n of what follows the first.
+record-later : (n : ℕ) (input : List ℕ) → recordAt (suc n) input ≡ recordAt n (drop 8 input)
+record-later n input =
+    let e : 8 * suc n ≡ 8 + 8 * n = omega arith in
+    ap (λ (i : ℕ). take 8 (drop i input)) e ∙ ap (take 8) (sym (drop-drop (8 * n) 8 input))
+
+bench-later : (n : ℕ) (input : List ℕ) (b : Bench) → benchAfter (suc n) input b ≡ benchAfter n (drop 8 input) (first input b .bench)
+unfolding benchAfter
+bench-later zero input b = refl
+bench-later (suc n) input b = ap₂ (λ (l : List ℕ) (d : Bench). answer (eventOf l) d .bench) (record-later n input) (bench-later n input b)
+
+lines-later : (n k : ℕ) (input : List ℕ) (b : Bench) → linesFor (suc n) k input b ≡ line k (first input b .reply) ++ linesFor n (k + 1) (drop 8 input) (first input b .bench)
+unfolding benchAfter linesFor
+lines-later zero k input b = let e : k + 0 ≡ k = omega arith in rw (e, append-nil (line k (first input b .reply)))
+lines-later (suc n) k input b =
+    let e : k + suc n ≡ k + 1 + n = omega arith in
+    ap₂ (λ (p q : List ℕ). p ++ q) (lines-later n k input b)
+    (ap₂ line e (ap₂ (λ (l : List ℕ) (d : Bench). answer (eventOf l) d .reply) (record-later n input) (bench-later n input b)))
+    ∙ append-assoc (line k (first input b .reply)) _ _
+
+-- the line of a record that the input's end cuts short after t bytes
+abbrev pub lastLine : ℕ → ℕ → List ℕ
+lastLine zero k = []
+lastLine (suc t) k = line k (refusal 17)
+
+pub printed-lines : (n t k fuel : ℕ) (input : List ℕ) (b : Bench) → length input ≡ 8 * n + t → t < 8 → length input ≤ fuel → printed fuel k input b ≡ linesFor n k input b ++ lastLine t (k + n)
+unfolding printed linesFor
+printed-lines zero zero k zero [] b h l f = refl
+printed-lines zero zero k (suc fuel) [] b h l f = refl
+printed-lines zero (suc t) k fuel [] b h l f = absurd (omega (arith, h))
+printed-lines (suc n) t k fuel [] b h l f = absurd (omega (arith, h))
+printed-lines n t k zero (x ∷ xs) b h l f = absurd (omega (arith, f))
+printed-lines zero zero k (suc fuel) (x ∷ xs) b h l f = absurd (omega (arith, h))
+printed-lines zero (suc t) k (suc fuel) (x ∷ xs) b h l f =
+    let e : k + 0 ≡ k = omega arith in rw (lt-ltb (length (x ∷ xs)) 8 (omega (arith, h)), e)
+printed-lines (suc n) t k (suc fuel) (x ∷ xs) b h l f =
+    let e : k + suc n ≡ k + 1 + n = omega arith in
+    let d = length-drop 8 (x ∷ xs) in
+    rw (le-ltb (length (x ∷ xs)) 8 (omega (arith, h)))
+    (ap (λ (p : List ℕ). line k (first (x ∷ xs) b .reply) ++ p) (printed-lines n t (k + 1) fuel (drop 8 (x ∷ xs)) (first (x ∷ xs) b .bench) (omega (arith, h, d)) l (omega (arith, f, d)))
+    ∙ sym (append-assoc (line k (first (x ∷ xs) b .reply)) _ (lastLine t (k + 1 + n)))
+    ∙ ap₂ (λ (p : List ℕ) (i : ℕ). p ++ lastLine t i) (sym (lines-later n k (x ∷ xs) b)) (sym e))
+
+-- From power-up: the lines of the whole records, numbered from 1, and one more where bytes are left over.
+pub bench-prints : (n t : ℕ) (input : List ℕ) → length input ≡ 8 * n + t → t < 8 → bench input ≡ linesFor n 1 input started ++ lastLine t (1 + n)
+bench-prints n t input h l = printed-lines n t 1 (length input) input started h l (omega arith)
