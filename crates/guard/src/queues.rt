@@ -32,7 +32,7 @@ fn queue_sound(q: Queue) -> bool
     ensures { λ b. ⌜ Decides b (SoundQueue q) ⌝ }
 {
     let slots = q.slots;
-    let count = q.count;
+    let count = q.count as usize;
     if 24 < count {
         return false;
     }
@@ -65,7 +65,7 @@ fn queue_good(map: [[Page; 8]; 24], q: Queue) -> bool
     requires { ⌜ SoundQueue q ⌝ }
     ensures { λ b. ⌜ b ≡ queueGood (entries q) (pagesOf map) ⌝ }
 {
-    let count = q.count;
+    let count = q.count as usize;
     let mut i = 0;
     while i < count {
         let x = entry(q, i);
@@ -85,7 +85,7 @@ fn queues_apart(q: Queue, other: Queue) -> bool
     requires { ⌜ SoundQueue q × SoundQueue other ⌝ }
     ensures { λ b. ⌜ b ≡ apart (entries q) (entries other) ⌝ }
 {
-    let count = q.count;
+    let count = q.count as usize;
     let mut i = 0;
     while i < count {
         if store::contains(other, entry(q, i)) {
@@ -101,7 +101,7 @@ fn all_below(q: Queue) -> bool
     requires { ⌜ SoundQueue q ⌝ }
     ensures { λ b. ⌜ b ≡ allBelow 24 (entries q) ⌝ }
 {
-    let count = q.count;
+    let count = q.count as usize;
     let mut i = 0;
     while i < count {
         let x = entry(q, i);

@@ -11,6 +11,7 @@ ghost use Prim.Native.Nat.{_+_, _≤_};
 ghost use lib.Dec.{ltb};
 ghost use lib.ListN.{length};
 ghost use Rattle.rules.specs.Lists.{freeBelow};
+ghost use Rattle.rules.specs.WellFormed.{GoodPages};
 ghost use Rattle.rules.specs.Receive.{dropped, judge};
 ghost use Rattle.store.specs.Views.{pagesOf};
 ghost use Rattle.state.specs.View.{registersOf};
@@ -54,7 +55,7 @@ pub fn judged(
     badcrc: bool,
     alignment: bool,
 ) -> Verdict
-    requires { ⌜ 18 ≤ length (now frame) ⌝ }
+    requires { ⌜ (18 ≤ length (now frame)) × GoodPages 24 (pagesOf map) ⌝ }
     ensures { λ v. ⌜ arrivalOf v ≡ judge (registersOf r) (length (freeBelow 24 (pagesOf map))) (frameOf (now (frame .entry)) badcrc alignment) ⌝ }
 {
     if !bits::is_set(r.rcr, 8) {

@@ -16,6 +16,7 @@ ghost use mathlib.Core.List.{List};
 ghost use lib.ListN.{length};
 ghost use Rattle.rules.specs.Bits.{wordOf};
 ghost use Rattle.rules.specs.Lists.{freeBelow};
+ghost use Rattle.rules.specs.WellFormed.{GoodPages};
 ghost use Rattle.rules.specs.Interrupts.{shownEphsr};
 ghost use Rattle.rules.specs.Registers as rules;
 ghost use Rattle.store.specs.Views.{entries, pagesOf, SoundQueue};
@@ -36,6 +37,7 @@ fn gives(part: Part, word: u16, r: Registers) -> Touched
 
 // MIR: the number of pages, and of free pages.
 fn memory_information(map: [[Page; 8]; 24]) -> u16
+    requires { ⌜ GoodPages 24 (pagesOf map) ⌝ }
     ensures { λ w. ⌜ w ≡ wordOf 24 (length (freeBelow 24 (pagesOf map))) ⌝ }
 {
     bits::word(24, store::free_count(map) as u8)

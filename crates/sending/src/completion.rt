@@ -26,7 +26,7 @@ pub fn is_released(good: bool, control: u16) -> bool
 }
 
 // Refusal 14: the number would join completion, which has its 24 entries.
-pub fn is_full(released: bool, count: usize) -> bool
+pub fn is_full(released: bool, count: u8) -> bool
     ensures { λ r. ⌜ r ≡ (not released && leb 24 count) ⌝ }
 {
     if released {

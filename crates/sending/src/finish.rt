@@ -1,6 +1,7 @@
 // A send finishes: the TX head is sent.
 use crate::Send;
 use crate::address::address_bits;
+use crate::after::sent_registers;
 use crate::completion::is_full;
 use crate::completion::is_released;
 use crate::completion::retire;
@@ -8,7 +9,6 @@ use crate::event::is_good;
 use crate::event::is_within;
 use crate::output::is_usable;
 use crate::output::put_out;
-use crate::registers::sent_registers;
 use state::Answer;
 use state::Registers;
 use state::Stepped;

@@ -21,7 +21,7 @@ pub fn contains_from(q: Queue, from: usize, packet: Packet) -> bool
     ensures { λ r. ⌜ r ≡ member (packet .0) (drop from (entries q)) ⌝ }
 {
     let slots = q.slots;
-    let count = q.count;
+    let count = q.count as usize;
     let mut i = from;
     while i < count {
         let x = slots[i];
@@ -46,7 +46,7 @@ pub fn push(q: Queue, packet: Packet) -> Queue
 {
     let mut slots = q.slots;
     let count = q.count;
-    slots[count] = packet;
+    slots[count as usize] = packet;
     Queue {
         slots,
         count: count + 1,

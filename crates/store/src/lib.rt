@@ -37,5 +37,5 @@ pub struct Address(pub u16);
 // Packet numbers, the head at 0; slots from count on are Packet(0), so that equal contents are equal queues.
 pub struct Queue {
     pub slots: [Packet; 24],
-    pub count: usize,
+    pub count: u8,
 }

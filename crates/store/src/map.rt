@@ -10,6 +10,7 @@ ghost use mathlib.Core.List.{List, [], _∷_};
 ghost use Prim.Native.Nat.{ℕ, _≤_, _<_};
 ghost use lib.ListN.{length, take, drop, set, getD, replicate};
 ghost use Rattle.rules.specs.Lists.{owned, some?, firstEmpty, freeBelow};
+ghost use Rattle.rules.specs.WellFormed.{GoodPages};
 ghost use Rattle.store.specs.Views.{used, rowOf, pagesOf, SoundMap};
 
 // Does a packet from number `from` on own the page?
@@ -83,19 +84,18 @@ pub fn lowest_unallocated(map: [[Page; 8]; 24]) -> usize
     }
 }
 
-// How many pages no packet owns.
+// How many pages no packet owns: 24 less those that packets have.
 pub fn free_count(map: [[Page; 8]; 24]) -> usize
+    requires { ⌜ GoodPages 24 (pagesOf map) ⌝ }
     ensures { λ r. ⌜ r ≡ length (freeBelow 24 (pagesOf map)) ⌝ }
 {
-    let mut n = 0;
-    let mut p: u8 = 0;
-    while p < 24 {
-        if !is_owned(map, Page(p)) {
-            n += 1;
-        }
-        p += 1;
+    let mut owned = 0;
+    let mut k = 0;
+    while k < 24 {
+        owned += pages_in(map[k]);
+        k += 1;
     }
-    n
+    24 - owned
 }
 
 // The lowest pages that no packet owns, `need` of them or as many as there are.

@@ -18,10 +18,10 @@ abbrev μ-loop : tie.MeasureT-loop
 μ-loop q count i₀ i = count - i
 
 abbrev Q : tie.At-loop Inv-loop μ-loop → Queue
-Q a = a .before .args .q
+Q a = a .before .before .args .q
 
 len : (a : tie.At-loop Inv-loop μ-loop) → length (entries (Q a)) ≡ Q a .count
-len a = entries-length (Q a) (a .before .pre)
+len a = entries-length (Q a) (a .before .before .pre)
 
 within : (a : tie.In-loop Inv-loop μ-loop) → a .before .loop .i < length (entries (Q (a .before)))
 within a = omega (arith, len (a .before), a .loop-test .taken)
@@ -51,6 +51,7 @@ all-below-spec =
     (tie.spec
     Inv-loop
     μ-loop
+    (λ c. search needs)
     (λ c. search needs)
     (λ c κs. search needs)
     returns

@@ -21,16 +21,16 @@ abbrev μ-loop : tie.MeasureT-loop
 μ-loop map q count i₀ i = count - i
 
 abbrev Q : tie.At-loop Inv-loop μ-loop → Queue
-Q a = a .before .args .q
+Q a = a .before .before .args .q
 
 abbrev P : tie.At-loop Inv-loop μ-loop → List (List ℕ)
-P a = pagesOf (a .before .args .map)
+P a = pagesOf (a .before .before .args .map)
 
 abbrev K : tie.At-loop Inv-loop μ-loop → ℕ
 K a = getD (entries (Q a)) (a .loop .i) 0
 
 len : (a : tie.At-loop Inv-loop μ-loop) → length (entries (Q a)) ≡ Q a .count
-len a = entries-length (Q a) (a .before .pre)
+len a = entries-length (Q a) (a .before .before .pre)
 
 within : (a : tie.In-loop Inv-loop μ-loop) → a .before .loop .i < length (entries (Q (a .before)))
 within a = omega (arith, len (a .before), a .loop-test .taken)
@@ -54,7 +54,7 @@ returns c =
 contains-from-requires : tie.Need-contains-from-requires Inv-loop μ-loop
 contains-from-requires c κs =
     let a = c .before .before .before in
-    (omega (arith, a .loop-test .taken), a .before .before .pre)
+    (omega (arith, a .loop-test .taken), a .before .before .before .pre)
 
 returns-2 : tie.Need-returns-2 Inv-loop μ-loop
 returns-2 c =
@@ -80,6 +80,7 @@ queue-good-spec =
     (tie.spec
     Inv-loop
     μ-loop
+    (λ c. search needs)
     (λ c. search needs)
     (λ c κs. search needs)
     (λ c κs. search needs)

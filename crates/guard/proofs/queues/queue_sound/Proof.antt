@@ -13,7 +13,7 @@ returns c =
 returns-2 : tie.Need-returns-2
 returns-2 c =
     let e = c .zeros-from .ensures in
-    rw (e .0) (queue-decides (c .before .before .before .args .q) (e .1) (c .before .if1 .left))
+    rw (e .0) (queue-decides (c .before .before .before .before .args .q) (e .1) (c .before .if1 .left))
 
 pub queue-sound-spec : {M : Type 1} → statement M
-queue-sound-spec = tie.close (tie.spec returns (λ c κs. search needs) returns-2)
+queue-sound-spec = tie.close (tie.spec (λ c. search needs) returns (λ c κs. search needs) returns-2)

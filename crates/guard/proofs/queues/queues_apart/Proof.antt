@@ -20,13 +20,13 @@ abbrev μ-loop : tie.MeasureT-loop
 μ-loop q other count i₀ i = count - i
 
 abbrev Q : tie.At-loop Inv-loop μ-loop → Queue
-Q a = a .before .args .q
+Q a = a .before .before .args .q
 
 abbrev Other : tie.At-loop Inv-loop μ-loop → List ℕ
-Other a = entries (a .before .args .other)
+Other a = entries (a .before .before .args .other)
 
 len : (a : tie.At-loop Inv-loop μ-loop) → length (entries (Q a)) ≡ Q a .count
-len a = entries-length (Q a) (a .before .pre .0)
+len a = entries-length (Q a) (a .before .before .pre .0)
 
 within : (a : tie.In-loop Inv-loop μ-loop) → a .before .loop .i < length (entries (Q (a .before)))
 within a = omega (arith, len (a .before), a .loop-test .taken)
@@ -59,6 +59,7 @@ queues-apart-spec =
     (tie.spec
     Inv-loop
     μ-loop
+    (λ c. search needs)
     (λ c. search needs)
     (λ c κs. search needs)
     (λ c κs. search needs)

@@ -20,16 +20,16 @@ abbrev μ-loop : tie.MeasureT-loop
 μ-loop «from» packet slots count i₀ i = count - i
 
 abbrev Q : tie.At-loop Inv-loop μ-loop → Queue
-Q a = a .before .before .args .q
+Q a = a .before .before .before .args .q
 
 len : (a : tie.At-loop Inv-loop μ-loop) → length (entries (Q a)) ≡ Q a .count
-len a = entries-length (Q a) (a .before .before .pre .1)
+len a = entries-length (Q a) (a .before .before .before .pre .1)
 
 within : (a : tie.In-loop Inv-loop μ-loop) → a .before .loop .i < length (entries (Q (a .before)))
 within a = omega (arith, len (a .before), a .loop-test .taken)
 
 at : (a : tie.In-loop Inv-loop μ-loop) → getD (entries (Q (a .before))) (a .before .loop .i) 0 ≡ number (getD (Q (a .before) .slots) (a .before .loop .i) (record { 0 = 0 }))
-at a = entries-at (Q (a .before)) (a .before .before .before .pre .1) (a .before .loop .i) (a .loop-test .taken)
+at a = entries-at (Q (a .before)) (a .before .before .before .before .pre .1) (a .before .loop .i) (a .loop-test .taken)
 
 returns : tie.Need-returns Inv-loop μ-loop
 returns c =
@@ -54,6 +54,7 @@ contains-from-spec =
     (tie.spec
     Inv-loop
     μ-loop
+    (λ c. search needs)
     (λ c. search needs)
     (λ c. search needs)
     returns

@@ -12,4 +12,4 @@ returns c =
     is-queue _ _ (pushed (s .args .q) (s .pre .1) (s .args .packet) (s .pre .0)) (rw length-append (omega (arith, entries-length (s .args .q) (s .pre .1), s .pre .0)))
 
 pub push-spec : {M : Type 1} → statement M
-push-spec = tie.close (tie.spec (λ c. search needs) (λ c. search needs) returns)
+push-spec = tie.close (tie.spec (λ c. search needs) (λ c. search needs) (λ c. search needs) returns)

@@ -16,7 +16,7 @@ ghost use Rattle.sending.specs.Numbers.{sendOf};
 ghost use Rattle.sending.specs.Sends.{Sent};
 
 // The latch is set if TX is now empty.
-fn tx_empty(latch: bool, left: usize) -> bool
+fn tx_empty(latch: bool, left: u8) -> bool
     ensures { λ r. ⌜ r ≡ latch || eqb left 0 ⌝ }
 {
     if latch {

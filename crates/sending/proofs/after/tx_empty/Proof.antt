@@ -1,6 +1,6 @@
 use borrow.Author.Needs.{needs}
-use Rattle.sending.proofs.registers.tx_empty.Statement.{statement}
-use Rattle.sending.proofs.registers.tx_empty.Tie as tie
+use Rattle.sending.proofs.after.tx_empty.Statement.{statement}
+use Rattle.sending.proofs.after.tx_empty.Tie as tie
 
 returns-2 : tie.Need-returns-2
 returns-2 c = rw (c .if1 .left)

@@ -10,8 +10,8 @@ use Rattle.store.specs.Views.{entries}
 use Rattle.state.specs.View.{registersOf}
 use Rattle.sending.specs.Numbers.{sendOf}
 use Rattle.sending.proofs.Facts.{count-none, same-sent}
-use Rattle.sending.proofs.registers.sent_registers.Statement.{statement}
-use Rattle.sending.proofs.registers.sent_registers.Tie as tie
+use Rattle.sending.proofs.after.sent_registers.Statement.{statement}
+use Rattle.sending.proofs.after.sent_registers.Tie as tie
 
 returns : tie.Need-returns
 unfolding newEcr newEphsr
