@@ -106,12 +106,6 @@ pub free-more : (n : ℕ) (ls : List (List ℕ)) → owned n ls ≡ false → fr
 unfolding freeBelow unless
 free-more n ls h = rw (add-one, h)
 
-pub count-owned : (n : ℕ) (ls : List (List ℕ)) → owned n ls ≡ true → length (freeBelow (n + 1) ls) ≡ length (freeBelow n ls)
-count-owned n ls h = ap length (free-owned n ls h)
-
-pub count-more : (n : ℕ) (ls : List (List ℕ)) → owned n ls ≡ false → length (freeBelow (n + 1) ls) ≡ length (freeBelow n ls) + 1
-count-more n ls h = ap length (free-more n ls h) ∙ length-append (freeBelow n ls) (n ∷ [])
-
 -- There are at most n free pages below n.
 pub free-few : (n : ℕ) (ls : List (List ℕ)) → length (freeBelow n ls) ≤ n
 unfolding freeBelow unless

@@ -39,24 +39,37 @@ abbrev pub lastLine : ℕ → ℕ → List ℕ
 lastLine zero k = []
 lastLine (suc t) k = line k (refusal 17)
 
-pub printed-lines : (n t k fuel : ℕ) (input : List ℕ) (b : Bench) → length input ≡ 8 * n + t → t < 8 → length input ≤ fuel → printed fuel k input b ≡ linesFor n k input b ++ lastLine t (k + n)
+-- what is printed with this bound on the records
+abbrev Prints : ℕ → Type 0
+Prints fuel = (n t k : ℕ) (input : List ℕ) (b : Bench) → length input ≡ 8 * n + t → t < 8 → length input ≤ fuel → printed fuel k input b ≡ linesFor n k input b ++ lastLine t (k + n)
+
+prints-none : Prints zero
 unfolding printed linesFor
-printed-lines zero zero k zero [] b h l f = refl
-printed-lines zero zero k (suc fuel) [] b h l f = refl
-printed-lines zero (suc t) k fuel [] b h l f = absurd (omega (arith, h))
-printed-lines (suc n) t k fuel [] b h l f = absurd (omega (arith, h))
-printed-lines n t k zero (x ∷ xs) b h l f = absurd (omega (arith, f))
-printed-lines zero zero k (suc fuel) (x ∷ xs) b h l f = absurd (omega (arith, h))
-printed-lines zero (suc t) k (suc fuel) (x ∷ xs) b h l f =
-    let e : k + 0 ≡ k = omega arith in rw (lt-ltb (length (x ∷ xs)) 8 (omega (arith, h)), e)
-printed-lines (suc n) t k (suc fuel) (x ∷ xs) b h l f =
+prints-none zero zero k input b h l f = refl
+prints-none zero (suc t) k input b h l f = absurd (omega (arith, h, f))
+prints-none (suc n) t k input b h l f = absurd (omega (arith, h, f))
+
+prints-more : (fuel : ℕ) → Prints fuel → Prints (suc fuel)
+unfolding printed linesFor
+prints-more fuel ih zero zero k [] b h l f = refl
+prints-more fuel ih zero (suc t) k [] b h l f = absurd (omega (arith, h))
+prints-more fuel ih (suc n) t k [] b h l f = absurd (omega (arith, h))
+prints-more fuel ih zero zero k (x ∷ xs) b h l f = absurd (omega (arith, h))
+prints-more fuel ih zero (suc t) k (x ∷ xs) b h l f =
+    let e : k + 0 ≡ k = omega arith in
+    rw (lt-ltb (length (x ∷ xs)) 8 (omega (arith, h)), printed) (ap (λ (i : ℕ). line i (refusal 17)) (sym e))
+prints-more fuel ih (suc n) t k (x ∷ xs) b h l f =
     let e : k + suc n ≡ k + 1 + n = omega arith in
     let d = length-drop 8 (x ∷ xs) in
-    rw (le-ltb (length (x ∷ xs)) 8 (omega (arith, h)))
-    (ap (λ (p : List ℕ). line k (first (x ∷ xs) b .reply) ++ p) (printed-lines n t (k + 1) fuel (drop 8 (x ∷ xs)) (first (x ∷ xs) b .bench) (omega (arith, h, d)) l (omega (arith, f, d)))
+    rw (le-ltb (length (x ∷ xs)) 8 (omega (arith, h)), printed)
+    (ap (λ (p : List ℕ). line k (first (x ∷ xs) b .reply) ++ p) (ih n t (k + 1) (drop 8 (x ∷ xs)) (first (x ∷ xs) b .bench) (omega (arith, h, d)) l (omega (arith, f, d)))
     ∙ sym (append-assoc (line k (first (x ∷ xs) b .reply)) _ (lastLine t (k + 1 + n)))
     ∙ ap₂ (λ (p : List ℕ) (i : ℕ). p ++ lastLine t i) (sym (lines-later n k (x ∷ xs) b)) (sym e))
 
+prints : (fuel : ℕ) → Prints fuel
+prints zero = prints-none
+prints (suc fuel) = prints-more fuel (prints fuel)
+
 -- From power-up: the lines of the whole records, numbered from 1, and one more where bytes are left over.
 pub bench-prints : (n t : ℕ) (input : List ℕ) → length input ≡ 8 * n + t → t < 8 → bench input ≡ linesFor n 1 input started ++ lastLine t (1 + n)
-bench-prints n t input h l = printed-lines n t 1 (length input) input started h l (omega arith)
+bench-prints n t input h l = prints (length input) n t 1 input started h l (omega arith)

@@ -13,7 +13,6 @@ pub use map::allocated;
 pub use map::cleared;
 pub use map::free_count;
 pub use map::granted;
-pub use map::is_owned;
 pub use map::lowest_free;
 pub use map::lowest_unallocated;
 pub use map::owned_from;

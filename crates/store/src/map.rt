@@ -28,13 +28,6 @@ pub fn owned_from(map: [[Page; 8]; 24], from: usize, page: Page) -> bool
     false
 }
 
-// Does a packet own the page?
-pub fn is_owned(map: [[Page; 8]; 24], page: Page) -> bool
-    ensures { λ r. ⌜ r ≡ owned (page .0) (pagesOf map) ⌝ }
-{
-    owned_from(map, 0, page)
-}
-
 // The packet's row: no pages where it is not allocated. In a sound map it is as its pages have it made.
 pub fn row_of(map: [[Page; 8]; 24], packet: Packet) -> [Page; 8]
     ensures { λ r. ⌜ (used r ≡ getD (pagesOf map) (packet .0) []) × (SoundMap map → r ≡ rowOf (used r)) ⌝ }
