@@ -33,8 +33,9 @@ pub struct Page(pub u8);
 
 pub struct Address(pub u16);
 
-// Packet numbers, the head at 0; slots from count on are Packet(0), so that equal contents are equal queues.
+// Packet numbers, the head at 0; slots from count on are Packet(0), so that equal contents are equal queues. The count stands first: behind the
+// slots it would leave the compiler a piece of eleven bytes that it copies for every record.
 pub struct Queue {
-    pub slots: [Packet; 24],
     pub count: u8,
+    pub slots: [Packet; 24],
 }
