@@ -11,6 +11,7 @@ use Rattle.store.specs.declared.Page.{Page}
 use Rattle.state.specs.declared.Registers.{Registers}
 use Rattle.state.specs.declared.Stepped.{Stepped}
 use Rattle.state.specs.declared.Touched.{Touched}
+use Rattle.state.specs.declared.Answer.the-variants.{Done}
 use Rattle.state.specs.View.{view, Ready}
 use Rattle.state.specs.Promise.{InOrder}
 use Rattle.registers.specs.Meaning.{widthOf}
@@ -27,6 +28,7 @@ besideMap t m = record { answer = t .answer; registers = t .registers; pages = m
 
 -- what power-up leaves, beside 6,144 zero bytes
 pub record Started (s : Stepped) : Type 0 where
+  pub answer : s .answer ≡ Done 0
   pub chip : view (s .registers) (s .pages) (replicate 6144 0) ≡ powerUp
   pub ready : InOrder (s .registers) (s .pages) (replicate 6144 0)
 

@@ -58,9 +58,9 @@ pub fn answer_all(
     number: &mut u64,
 ) -> Stepped
     requires { ⌜ Held r map (now memory) (now wire) (now have) ⌝ }
-    requires { ⌜ (length (now input) ≤ 4096) × (16384 ≤ length (now lines)) × (now number + 512 ≤ 0xffffffffffffffff) ⌝ }
+    requires { ⌜ (length (now input) ≤ 8192) × (32768 ≤ length (now lines)) × (now number + 1024 ≤ 0xffffffffffffffff) ⌝ }
     ensures { λ x. ⌜ Answered (length (now (input .entry)) / 8) (now (number .entry)) (now (input .entry)) (holding (view r map (now (memory .entry))) (take (now (have .entry)) (now (wire .entry))) (now (out .entry))) (x .registers) (x .pages) (now (memory .exit)) (now (wire .exit)) (now (have .exit)) (now (out .exit)) (now (lines .exit)) (now (end .exit)) (now (number .exit)) ⌝ }
-    ensures { λ x. ⌜ now (end .exit) ≤ 16384 ⌝ }
+    ensures { λ x. ⌜ now (end .exit) ≤ 32768 ⌝ }
 {
     let mut registers = r;
     let mut pages = map;

@@ -66,7 +66,7 @@ fn serve_from(
     lines: &mut [u8],
 )
     requires { ⌜ Held r map (now memory) (now wire) 0 ⌝ }
-    requires { ⌜ (length (now input) ≡ 4096) × (length (now lines) ≡ 16384) ⌝ }
+    requires { ⌜ (length (now input) ≡ 8192) × (length (now lines) ≡ 32768) ⌝ }
 {
     let mut registers = r;
     let mut pages = map;
@@ -74,7 +74,7 @@ fn serve_from(
     let mut end = 0;
     let mut number: u64 = 1;
     let mut kept = 0;
-    let mut turns: u64 = 0x40000000000000;
+    let mut turns: u64 = 0x20000000000000;
     while turns > 0 {
         let filled = read_more(input, kept);
         if filled == kept {
@@ -111,8 +111,8 @@ pub fn run() {
     let mut memory = [0; 6144];
     let mut wire = [0; 2048];
     let mut out = [0; 2048];
-    let mut input = [0; 4096];
-    let mut lines = [0; 16384];
+    let mut input = [0; 8192];
+    let mut lines = [0; 32768];
     serve_from(
         r,
         map,

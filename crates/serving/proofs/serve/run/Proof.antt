@@ -9,7 +9,7 @@ serve-from-requires : tie.Need-serve-from-requires
 serve-from-requires c κs =
     let started = c .before .before .before .before .before .before .before .power-up .ensures in (
       record { chip = rw (c .before .before .before .before .before .pages-of .ensures) (started .ready); room = length-replicate {A = ℕ} 2048 0; few = search needs },
-      (length-replicate {A = ℕ} 4096 0, length-replicate {A = ℕ} 16384 0),
+      (length-replicate {A = ℕ} 8192 0, length-replicate {A = ℕ} 32768 0),
     )
 
 pub run-spec : {M : Type 1} → statement M
