@@ -46,8 +46,8 @@ fn print(lines: &mut [u8], at: usize, number: &mut u64, answer: Answer) -> usize
 
 // Each complete record of the input; the lines stand before `end`.
 pub fn answer_all(
-    r: Registers,
-    map: [[Page; 8]; 24],
+    mut r: Registers,
+    mut map: [[Page; 8]; 24],
     memory: &mut [u8],
     wire: &mut [u8],
     have: &mut usize,
@@ -62,30 +62,28 @@ pub fn answer_all(
     ensures { λ x. ⌜ Answered (length (now (input .entry)) / 8) (now (number .entry)) (now (input .entry)) (holding (view r map (now (memory .entry))) (take (now (have .entry)) (now (wire .entry))) (now (out .entry))) (x .registers) (x .pages) (now (memory .exit)) (now (wire .exit)) (now (have .exit)) (now (out .exit)) (now (lines .exit)) (now (end .exit)) (now (number .exit)) ⌝ }
     ensures { λ x. ⌜ now (end .exit) ≤ 32768 ⌝ }
 {
-    let mut registers = r;
-    let mut pages = map;
     let mut at = 0;
     *end = 0;
     while at + 8 <= input.len() {
         let bytes = record_at(input, at);
         at += 8;
-        let task = task_of(registers.bank, bytes);
+        let task = task_of(r.bank, bytes);
         match task {
             Task::Still(still) => {
-                let t = answer_still(still, registers, pages, memory, wire, have, bytes);
+                let t = answer_still(still, r, map, memory, wire, have, bytes);
                 let answer = t.answer;
-                registers = t.registers;
+                r = t.registers;
                 *end = print(lines, *end, number, answer);
                 continue;
             }
             Task::Moving(moving) => {
-                let s = answer_moving(moving, registers, pages, memory, wire, have, out);
+                let s = answer_moving(moving, r, map, memory, wire, have, out);
                 let answer = s.answer;
-                registers = s.registers;
-                pages = state::pages_of(s);
+                r = s.registers;
+                map = state::pages_of(s);
                 *end = print(lines, *end, number, answer);
             }
         }
     }
-    state::make_stepped(Answer::Done(0), registers, pages)
+    state::make_stepped(Answer::Done(0), r, map)
 }

@@ -57,8 +57,8 @@ fn cut_short(lines: &mut [u8], kept: usize, number: u64)
 // Every record is answered before more is waited for. The loop counts its turns down from a number that no run uses up, and with them
 // the record number stays within its 64 bits.
 fn serve_from(
-    r: Registers,
-    map: [[Page; 8]; 24],
+    mut r: Registers,
+    mut map: [[Page; 8]; 24],
     memory: &mut [u8],
     wire: &mut [u8],
     out: &mut [u8],
@@ -68,8 +68,6 @@ fn serve_from(
     requires { ⌜ Held r map (now memory) (now wire) 0 ⌝ }
     requires { ⌜ (length (now input) ≡ 8192) × (length (now lines) ≡ 32768) ⌝ }
 {
-    let mut registers = r;
-    let mut pages = map;
     let mut have = 0;
     let mut end = 0;
     let mut number: u64 = 1;
@@ -82,8 +80,8 @@ fn serve_from(
             return;
         }
         let s = answer_all(
-            registers,
-            pages,
+            r,
+            map,
             memory,
             wire,
             &mut have,
@@ -93,8 +91,8 @@ fn serve_from(
             &mut end,
             &mut number,
         );
-        registers = s.registers;
-        pages = state::pages_of(s);
+        r = s.registers;
+        map = state::pages_of(s);
         if !write_lines(lines, end) {
             return;
         }

@@ -24,13 +24,13 @@ record-told at input h e = let k : at ≡ 8 * (at / 8) = omega arith in e ∙ ap
 
 -- A record of eight bytes has a line of at most thirty, and no buffer changes its length.
 abbrev Inv-loop : tie.InvT-loop
-Inv-loop memory₀ wire₀ have₀ out₀ input lines₀ end₀ number₀ registers₀ pages₀ at₀ memory wire have out lines end number registers pages at =
+Inv-loop r₀ map₀ memory₀ wire₀ have₀ out₀ input lines₀ end₀ number₀ at₀ r map memory wire have out lines end number at =
     (at ≤ length input) × (at % 8 ≡ 0) × (end * 4 ≤ at * 15)
-    × Answered (at / 8) number₀ input (holding (view registers₀ pages₀ memory₀) (take have₀ wire₀) out₀) registers pages memory wire have out lines end number
+    × Answered (at / 8) number₀ input (holding (view r₀ map₀ memory₀) (take have₀ wire₀) out₀) r map memory wire have out lines end number
     × (length memory ≡ length memory₀) × (length wire ≡ length wire₀) × (length out ≡ length out₀) × (length lines ≡ length lines₀)
 
 abbrev μ-loop : tie.MeasureT-loop
-μ-loop memory₀ wire₀ have₀ out₀ input lines₀ end₀ number₀ registers₀ pages₀ at₀ memory wire have out lines end number registers pages at =
+μ-loop r₀ map₀ memory₀ wire₀ have₀ out₀ input lines₀ end₀ number₀ at₀ r map memory wire have out lines end number at =
     length input - at
 
 loop-holds : tie.Need-loop-holds Inv-loop μ-loop
@@ -61,7 +61,7 @@ enum-known-task c =
 answer-still-requires : tie.Need-answer-still-requires Inv-loop μ-loop
 answer-still-requires c κs =
     let l = c .before .before .before .before .before .before .before .before .before in
-    (l .loop .inv .3 .held, meant-by (c .before .before .before .before .before .before .before .record-at .result) (l .loop .registers .bank) (c .before .before .before .before .task .given .1) (c .before .before .before .before .before .before .task-of .ensures))
+    (l .loop .inv .3 .held, meant-by (c .before .before .before .before .before .before .before .record-at .result) (l .loop .r .bank) (c .before .before .before .before .task .given .1) (c .before .before .before .before .before .before .task-of .ensures))
 
 print-requires : tie.Need-print-requires Inv-loop μ-loop
 print-requires c κs =
@@ -126,7 +126,7 @@ loop-again-2 c =
     let v = l .loop .inv in
     let p = c .before .before .print2 .ensures in
     let t = c .before .before .before .before .before .before .before .before .before .before .before .before .before .before .before .before .before .before .before .before .before .before .loop-test .taken in
-    let m = meant-by (q .record-at .result) (l .loop .registers .bank) (c .before .before .before .before .before .before .before .before .before .before .before .before .before .before .before .before .before .before .task2 .given .1) (c .before .before .before .before .before .before .before .before .before .before .before .before .before .before .before .before .before .before .before .before .task-of .ensures) in (
+    let m = meant-by (q .record-at .result) (l .loop .r .bank) (c .before .before .before .before .before .before .before .before .before .before .before .before .before .before .before .before .before .before .task2 .given .1) (c .before .before .before .before .before .before .before .before .before .before .before .before .before .before .before .before .before .before .before .before .task-of .ensures) in (
       t,
       omega (arith, v .1),
       omega (arith, v .2, p .1),

@@ -9,13 +9,13 @@ use Rattle.serving.proofs.serve.serve_from.Statement.{statement}
 use Rattle.serving.proofs.serve.serve_from.Tie as tie
 
 abbrev Inv-loop : tie.InvT-loop
-Inv-loop memory₀ wire₀ out₀ input₀ lines₀ registers₀ pages₀ have₀ end₀ number₀ kept₀ turns₀ memory wire out input lines registers pages have end number kept turns =
-    Held registers pages memory wire have × (end ≤ 32768) × (kept < 8)
+Inv-loop r₀ map₀ memory₀ wire₀ out₀ input₀ lines₀ have₀ end₀ number₀ kept₀ turns₀ r map memory wire out input lines have end number kept turns =
+    Held r map memory wire have × (end ≤ 32768) × (kept < 8)
     × (length memory ≡ length memory₀) × (length wire ≡ length wire₀) × (length out ≡ length out₀) × (length input ≡ length input₀) × (length lines ≡ length lines₀)
     × (number + 1024 * turns ≤ 9223372036854775809)
 
 abbrev μ-loop : tie.MeasureT-loop
-μ-loop memory₀ wire₀ out₀ input₀ lines₀ registers₀ pages₀ have₀ end₀ number₀ kept₀ turns₀ memory wire out input lines registers pages have end number kept turns =
+μ-loop r₀ map₀ memory₀ wire₀ out₀ input₀ lines₀ have₀ end₀ number₀ kept₀ turns₀ r map memory wire out input lines have end number kept turns =
     turns
 
 loop-holds : tie.Need-loop-holds Inv-loop μ-loop
