@@ -1,3 +1,4 @@
 -- Laws that the proofs of the functions cite.
 pub mod Hex
+pub mod Packed
 pub mod Answered
