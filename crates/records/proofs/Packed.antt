@@ -3,12 +3,11 @@ use mathlib.Core.Path.{_≡_, refl, ap, sym, _∙_}
 use mathlib.Core.List.{List, [], _∷_, _++_, append-assoc}
 use Prim.Native.Nat.{ℕ, zero, suc, _+_, _*_, _-_, _/_, _%_, _^_, _≤_, _<_}
 use native.Mathlib.Nat.{pow-suc, pow-le-pow-right, div-div-eq-div-mul}
-use native.Mathlib.Numerals.{add-one}
 use native.Mathlib.Omega.{arith}
 use lib.ListN.{length, take, length-append}
 use Rattle.rules.specs.Bench.{decimal}
 use Rattle.records.specs.Decimal.{leading, leading-ends, decimal-ends, decimal-length, Bytes, decimal-bytes}
-use Rattle.records.specs.Word.{packed, bytes8}
+use Rattle.records.specs.Word.{packed, bytes4, bytes8}
 use Rattle.records.specs.Counting.{Digits}
 use Rattle.records.proofs.Hex.{above, below}
 
@@ -41,9 +40,24 @@ unpacked-in n [] h k = refl
 unpacked-in zero (x ∷ l) h k = absurd (omega arith)
 unpacked-in (suc n) (x ∷ l) h k = rw (below x (packed l) (h .0), above x (packed l) (h .0), unpacked-in n l (h .1) (omega arith))
 
-pub unpacked : (l : List ℕ) → Bytes l → length l ≤ 8 → take (length l) (bytes8 (packed l)) ≡ l
+unpacked : (l : List ℕ) → Bytes l → length l ≤ 8 → take (length l) (bytes8 (packed l)) ≡ l
 unfolding bytes8 bytesIn
 unpacked l h k = ap (take (length l)) (sym (simp div-div-eq-div-mul)) ∙ unpacked-in 8 l h k
+
+-- Eight bytes are four and four.
+lowest : (x y h : ℕ) → x ≡ h * 256 + y → y % 256 ≡ x % 256
+lowest x y h e = omega arith
+
+pub halves : (x : ℕ) → bytes4 (x % 4294967296) ++ bytes4 (x / 4294967296) ≡ bytes8 x
+unfolding bytes4 bytes8
+halves x =
+    let high = x / 4294967296 in
+    let low = x % 4294967296 in
+    let a = lowest x low (high * 16777216) (omega arith) in
+    let b = lowest (x / 256) (low / 256) (high * 65536) (omega arith) in
+    let c = lowest (x / 65536) (low / 65536) (high * 256) (omega arith) in
+    let d = lowest (x / 16777216) (low / 16777216) high (omega arith) in
+    rw (a, b, c, d) (simp div-div-eq-div-mul)
 
 -- The digits of a number packed so far, from the last one on, and the number x that stands before them.
 pub record Packing (number x text unit size : ℕ) : Type 0 where
@@ -121,10 +135,10 @@ module _ {number text unit last size : ℕ} (d : Digits number text unit last si
   digits-fit = omega (arith, d .packs, few (decimal number) 8 (decimal-bytes number) (omega (arith, d .fits, d .count)))
 
   -- The next number has the same digits but for the last one, unless that is a 9.
-  pub digits-next : (last ≡ 9 → ⊥) → Digits (number + 1) (text + unit) unit (last + 1) size
+  pub digits-next : last < 9 → Digits (number + 1) (text + unit) unit (last + 1) size
   digits-next h =
       let front = leading (number / 10) in
-      let k : number % 10 < 9 = omega (arith, d .ends, h) in
+      let k : number % 10 < 9 = omega (arith, d .ends) in
       let a : (number + 1) / 10 ≡ number / 10 = omega arith in
       let b : 0x30 + (number + 1) % 10 ≡ suc (0x30 + number % 10) = omega arith in
       let e : decimal (number + 1) ≡ front ++ (suc (0x30 + number % 10) ∷ []) = decimal-ends (number + 1) ∙ rw (a, b) in

@@ -14,5 +14,6 @@ pub record Digits (number text unit last length : ℕ) : Type 0 where
   pub ends : last ≡ number % 10
   pub steps : unit ≡ 256 ^ (length - 1)
 
+-- so it is where the counter has digits at all
 pub record Counts (c : Counter) : Type 0 where
   pub digits : 0 < c .length → Digits (c .number) (c .text) (c .unit) (c .last) (c .length)

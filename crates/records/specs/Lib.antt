@@ -4,3 +4,4 @@ pub mod Gathers
 pub mod Decimal
 pub mod Word
 pub mod Counting
+pub mod Parts

@@ -18,7 +18,13 @@ pub fn counter_of(number: u64) -> Counter
     ensures { λ c. ⌜ (c .number ≡ number) × Counts c ⌝ }
 {
     if 100000000 <= number {
-        return Counter { number: number, text: 0, unit: 0, last: 0, length: 0 };
+        return Counter {
+            number,
+            text: 0,
+            unit: 0,
+            last: 0,
+            length: 0,
+        };
     }
     let last = number % 10;
     let mut text = 0x30 + last;
@@ -31,7 +37,13 @@ pub fn counter_of(number: u64) -> Counter
         length += 1;
         x = x / 10;
     }
-    Counter { number: number, text: text, unit: unit, last: last as u8, length: length }
+    Counter {
+        number,
+        text,
+        unit,
+        last: last as u8,
+        length,
+    }
 }
 
 // The next number. Nine times out of ten only the last digit grows.

@@ -1,7 +1,6 @@
 -- The loop packs the digits; what stands before them gets less.
 use borrow.Author.Needs.{needs}
 use mathlib.Core.Path.{refl}
-use Prim.Native.Nat.{_<_}
 use native.Mathlib.Omega.{arith}
 use Rattle.records.proofs.Packed.{Packing, packing-starts, packing-on, packing-short, packing-text, packing-unit, packing-ends}
 use Rattle.records.proofs.count.counter_of.Statement.{statement}

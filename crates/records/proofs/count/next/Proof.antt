@@ -9,7 +9,9 @@ use Rattle.records.proofs.count.next.Tie as tie
 
 -- The digits of the next number, where the last one is no 9.
 grown : (c : tie.Else2) → let k = c .before .before .before .before .args .counter in Digits (k .number + 1) (k .text + k .unit) (k .unit) (k .last + 1) (k .length)
-grown c = digits-next (c .before .before .before .before .pre .0 .digits (omega (arith, c .before .before .if1 .left))) (c .if2 .left)
+grown c =
+    let d = c .before .before .before .before .pre .0 .digits (omega (arith, c .before .before .if1 .left)) in
+    digits-next d (omega (arith, d .ends, c .if2 .left))
 
 add-t6 : tie.Need-add-t6
 add-t6 c = record { fits = omega (arith, digits-fit (grown (c .before .before))) }
