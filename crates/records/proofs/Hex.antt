@@ -14,10 +14,10 @@ use Rattle.records.specs.Word.{bytes4}
 abbrev word4 : ℕ → ℕ → ℕ → ℕ → ℕ
 word4 a b c d = a + b * 256 + c * 65536 + d * 16777216
 
-above : (x m : ℕ) → x < 256 → (x + m * 256) / 256 ≡ m
+pub above : (x m : ℕ) → x < 256 → (x + m * 256) / 256 ≡ m
 above x m h = omega arith
 
-below : (x m : ℕ) → x < 256 → (x + m * 256) % 256 ≡ x
+pub below : (x m : ℕ) → x < 256 → (x + m * 256) % 256 ≡ x
 below x m h = omega arith
 
 bytes-of : (a b c d : ℕ) → a < 256 → b < 256 → c < 256 → d < 256 → bytes4 (word4 a b c d) ≡ a ∷ b ∷ c ∷ d ∷ []

@@ -1,5 +1,5 @@
 -- The rules' decimal digits in a shape that code can follow: the last one, two or four digits, and what stands before them.
-use mathlib.Core.Path.{_≡_, ap, ap₂, sym, _∙_}
+use mathlib.Core.Path.{_≡_, refl, ap, ap₂, sym, _∙_}
 use mathlib.Core.List.{List, [], _∷_, _++_, append-assoc}
 use Prim.Native.Nat.{ℕ, zero, suc, _+_, _*_, _/_, _%_, _^_, _≤_, _<_}
 use native.Mathlib.Nat.{pow-suc}
@@ -8,6 +8,7 @@ use native.Mathlib.Decide.{decLe}
 use borrow.Author.Tests.{lt-ltb, le-ltb}
 use lib.ListN.{length, length-append}
 use Rattle.rules.specs.Bench.{decimalIn, decimal}
+use Rattle.lists.specs.Each.{Each}
 
 -- a number below 100 as two digits, and one below 10,000 as four
 abbrev pub digits2 : ℕ → List ℕ
@@ -91,3 +92,48 @@ decimal-length (suc k) x h = go (decimal-length k (x / 10)) (decLe 10 x)
     go f (yes l) =
         let b : x < 10 ^ suc k * 10 = rw (pow-suc 10 (suc k)) at h in
         omega (arith, ap length (decimal-last x l), length-append (decimal (x / 10)) ((0x30 + x % 10) ∷ []), f (omega arith))
+
+-- The digits that stand before others: none where nothing is left of the number.
+unfoldable pub leading : ℕ → List ℕ
+leading zero = []
+leading (suc n) = decimal (suc n)
+
+leading-some : (x : ℕ) → 0 < x → leading x ≡ decimal x
+unfolding leading
+leading-some zero h = absurd (omega arith)
+leading-some (suc n) h = refl
+
+-- So each number ends in its last digit.
+pub decimal-ends : (x : ℕ) → decimal x ≡ leading (x / 10) ++ ((0x30 + x % 10) ∷ [])
+unfolding leading
+decimal-ends x = go (decLe 10 x)
+  where
+    go : Dec (10 ≤ x) → decimal x ≡ leading (x / 10) ++ ((0x30 + x % 10) ∷ [])
+    go (yes l) = decimal-last x l ∙ ap (λ (d : List ℕ). d ++ ((0x30 + x % 10) ∷ [])) (sym (leading-some (x / 10) (omega arith)))
+    go (no l) =
+        let none : x / 10 ≡ 0 = omega arith in
+        let all : x % 10 ≡ x = omega arith in
+        decimal-one x (omega arith) ∙ sym (rw (none, all))
+
+pub leading-ends : (x : ℕ) → 0 < x → leading x ≡ leading (x / 10) ++ ((0x30 + x % 10) ∷ [])
+leading-ends x h = leading-some x h ∙ decimal-ends x
+
+-- Each digit is a byte.
+abbrev pub Bytes : List ℕ → Type 0
+Bytes l = Each (λ b. b < 256) l
+
+bytes-append : (a b : List ℕ) → Bytes a → Bytes b → Bytes (a ++ b)
+bytes-append [] b h k = k
+bytes-append (x ∷ a) b h k = (h .0, bytes-append a b (h .1) k)
+
+in-bytes : (n x : ℕ) → Bytes (decimalIn n x)
+unfolding decimalIn
+in-bytes zero x = tt
+in-bytes (suc n) x = go (in-bytes n (x / 10)) (decLe 10 x)
+  where
+    go : Bytes (decimalIn n (x / 10)) → Dec (10 ≤ x) → Bytes (decimalIn (suc n) x)
+    go f (yes l) = rw (in-large n x l) (bytes-append (decimalIn n (x / 10)) ((0x30 + x % 10) ∷ []) f (omega arith, tt))
+    go f (no l) = rw (in-small n x (omega arith)) (omega arith, tt)
+
+pub decimal-bytes : (x : ℕ) → Bytes (decimal x)
+decimal-bytes x = in-bytes (suc x) x

@@ -3,3 +3,5 @@ pub mod Event
 pub mod Gathers
 pub mod Decimal
 pub mod Word
+pub mod Counting
+pub mod Parts

@@ -1,8 +1,12 @@
 // The bench program's records and lines: what a record asks for, the wire bytes gathered so far, and the line that is printed.
 mod event; // event.rt: a record's event
 mod gather; // gather.rt: wire bytes gathered
+mod count; // count.rt: a record number, and its digits
 mod line; // line.rt: the printed line
 
+pub use count::Counter;
+pub use count::counter_of;
+pub use count::next;
 pub use event::Event;
 pub use event::event_of;
 pub use gather::Gathering;

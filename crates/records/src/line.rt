@@ -1,5 +1,6 @@
-// The printed line. It is written once for each record, so digits are written in pairs at places that a few comparisons give, and
-// the value's four characters are made in one word.
+// The printed line. It is written once for each record, so the number's digits come with it, those of the answer are written in pairs
+// at places that a few comparisons give, and the value's four characters are made in one word.
+use crate::count::Counter;
 use state::Shown;
 ghost use mathlib.Core.Path.{_≡_};
 ghost use mathlib.Core.List.{[], _∷_};
@@ -8,7 +9,9 @@ ghost use lib.ListN.{length};
 ghost use Rattle.rules.specs.Bench.{decimal, hex4, line};
 ghost use Rattle.lists.specs.Written.{Writes};
 ghost use Rattle.records.specs.Decimal.{digits2, digits4};
-ghost use Rattle.records.specs.Word.{bytes4};
+ghost use Rattle.records.specs.Word.{bytes4, bytes8};
+ghost use Rattle.records.specs.Counting.{Counts};
+ghost use Rattle.records.specs.Parts.{Begins, rest};
 
 fn byte_at(lines: &mut [u8], at: usize, x: u8) -> usize
     requires { ⌜ at + 1 ≤ length (now lines) ⌝ }
@@ -64,22 +67,6 @@ fn long_at(lines: &mut [u8], at: usize, x: u64) -> usize
     four_at(lines, mid, (x % 10000) as u32)
 }
 
-// Any number, and those below a hundred million without recursion.
-fn decimal_at(lines: &mut [u8], at: usize, x: u64) -> usize
-    requires { ⌜ at + length (decimal x) ≤ length (now lines) ⌝ }
-    ensures { λ r. ⌜ Writes (now (lines .entry)) at (decimal x) (now (lines .exit)) r ⌝ }
-{
-    if x < 10000 {
-        return small_at(lines, at, x as u32);
-    }
-    if 100000000 <= x {
-        return long_at(lines, at, x);
-    }
-    let low = x as u32;
-    let mid = small_at(lines, at, low / 10000);
-    four_at(lines, mid, low % 10000)
-}
-
 // The four hex digits of a value, the first in the lowest byte. Each nibble stands in a byte of its own; adding 6 carries into bit 4
 // of the byte exactly for a to f, which are 39 further on than the digits.
 fn hex_word(x: u16) -> u32
@@ -101,15 +88,43 @@ fn word_at(lines: &mut [u8], at: usize, x: u32) -> usize
     byte_at(lines, d, (x / 16777216 % 256) as u8)
 }
 
-// The line of a record, at a place of the buffer; returns the place behind it. All other bytes stay.
-pub fn line_at(lines: &mut [u8], at: usize, number: u64, shown: Shown) -> usize
-    requires { ⌜ at + 40 ≤ length (now lines) ⌝ }
-    ensures { λ r. ⌜ Writes (now (lines .entry)) at (line number (record { number = shown .0; value = shown .1 })) (now (lines .exit)) r × (r ≤ at + 30) ⌝ }
+fn eight_at(lines: &mut [u8], at: usize, x: u64) -> usize
+    requires { ⌜ at + 8 ≤ length (now lines) ⌝ }
+    ensures { λ r. ⌜ Writes (now (lines .entry)) at (bytes8 x) (now (lines .exit)) r ⌝ }
 {
-    let a = decimal_at(lines, at, number);
-    let b = byte_at(lines, a, 0x20);
+    let mid = word_at(lines, at, (x % 4294967296) as u32);
+    word_at(lines, mid, (x / 4294967296) as u32)
+}
+
+// The record's number. Up to eight bytes behind it may change: the rest of the line is written over them.
+fn number_at(lines: &mut [u8], at: usize, counter: Counter) -> usize
+    requires { ⌜ Counts counter × (at + 20 ≤ length (now lines)) ⌝ }
+    ensures { λ r. ⌜ Begins (now (lines .entry)) at (decimal (counter .number)) (now (lines .exit)) r ⌝ }
+{
+    if counter.length == 0 {
+        return long_at(lines, at, counter.number);
+    }
+    eight_at(lines, at, counter.text);
+    at + counter.length
+}
+
+// The rest of the line: the answer and its value.
+fn shown_at(lines: &mut [u8], at: usize, shown: Shown) -> usize
+    requires { ⌜ at + 10 ≤ length (now lines) ⌝ }
+    ensures { λ r. ⌜ Writes (now (lines .entry)) at (rest (shown .0) (shown .1)) (now (lines .exit)) r ⌝ }
+{
+    let b = byte_at(lines, at, 0x20);
     let c = small_at(lines, b, shown.0 as u32);
     let d = byte_at(lines, c, 0x20);
     let e = word_at(lines, d, hex_word(shown.1));
     byte_at(lines, e, 0x0a)
+}
+
+// The line of a record, at a place of the buffer; returns the place behind it. All other bytes stay.
+pub fn line_at(lines: &mut [u8], at: usize, counter: Counter, shown: Shown) -> usize
+    requires { ⌜ Counts counter × (at + 40 ≤ length (now lines)) ⌝ }
+    ensures { λ r. ⌜ Writes (now (lines .entry)) at (line (counter .number) (record { number = shown .0; value = shown .1 })) (now (lines .exit)) r × (r ≤ at + 30) ⌝ }
+{
+    let mid = number_at(lines, at, counter);
+    shown_at(lines, mid, shown)
 }

@@ -1,0 +1,53 @@
+use borrow.Author.Needs.{needs}
+use mathlib.Core.Path.{refl}
+use Prim.Native.Nat.{_≤_}
+use native.Mathlib.Omega.{arith}
+use lib.ListN.{length}
+use lib.Seq.{take-length}
+use Rattle.rules.specs.Bench.{decimal}
+use Rattle.records.specs.Decimal.{decimal-length}
+use Rattle.records.specs.Word.{bytes8}
+use Rattle.records.specs.Counting.{Digits}
+use Rattle.records.proofs.Packed.{digits-out}
+use Rattle.records.proofs.Parts.{begins}
+use Rattle.records.proofs.line.number_at.Statement.{statement}
+use Rattle.records.proofs.line.number_at.Tie as tie
+
+-- A record's number has at most 20 digits, and its counter has them where it has any.
+few : (s : tie.Start) → length (decimal (s .args .counter .number)) ≤ 20
+few s = decimal-length 19 (s .args .counter .number) (search needs)
+
+digits : (c : tie.Else1) → let k = c .before .before .before .args .counter in Digits (k .number) (k .text) (k .unit) (k .last) (k .length)
+digits c = c .before .before .before .pre .0 .digits (omega (arith, c .if1 .left))
+
+long-at-requires : tie.Need-long-at-requires
+long-at-requires c κs = let s = c .before .before .before .before in omega (arith, s .pre .1, few s)
+
+returns : tie.Need-returns
+returns c =
+    let s = c .before .before .before .before .before .before .before in
+    let w = c .before .before .long-at .ensures in
+    let d = decimal (s .args .counter .number) in
+    begins w (omega (arith, s .pre .1, few s)) (length d) (omega arith) (omega arith) (take-length d) (w .place)
+
+add-result : tie.Need-add-result
+add-result c = record { fits = omega (arith, c .before .before .before .before .before .before .before .before .pre .1, digits (c .before .before .before .before .before) .fits) }
+
+returns-2 : tie.Need-returns-2
+unfolding bytes8
+returns-2 c =
+    let d = digits (c .before .before .before .before .before) in
+    begins (c .before .before .before .eight-at .ensures) (search needs) (c .before .before .before .before .before .before .before .before .args .counter .length)
+    (omega (arith, d .fits)) (omega arith) (digits-out d) refl
+
+pub number-at-spec : {M : Type 1} → statement M
+number-at-spec =
+    tie.close
+    (tie.spec
+    long-at-requires
+    (λ c. search needs)
+    returns
+    (λ c κs. search needs)
+    add-result
+    (λ c. search needs)
+    returns-2)
