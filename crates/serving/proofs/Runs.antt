@@ -48,10 +48,10 @@ taken {before} {after} {text} {at} {end} h w =
     ∙ take-at (take at before ++ text) (drop (at + length text) before) end front
 
 -- No record is answered yet.
-pub none-yet : (k : ℕ) (input : List ℕ) (r : Registers) (m : List (List Page)) (mem wire : List ℕ) (have : ℕ) (out lines : List ℕ) → Held r m mem wire have
-    → batch.Answered 0 k input (holding (view r m mem) (take have wire) out) r m mem wire have out lines 0 k
+pub none-yet : {k number : ℕ} (input : List ℕ) (r : Registers) (m : List (List Page)) (mem wire : List ℕ) (have : ℕ) (out lines : List ℕ) → number ≡ k → Held r m mem wire have
+    → batch.Answered 0 k input (holding (view r m mem) (take have wire) out) r m mem wire have out lines 0 number
 unfolding benchAfter linesFor
-none-yet k input r m mem wire have out lines h = record { held = h; bench = refl; text = refl; counted = omega arith }
+none-yet input r m mem wire have out lines e h = record { held = h; bench = refl; text = refl; counted = omega (arith, e) }
 
 -- One record more.
 pub one-more : (n n′ k : ℕ) (input : List ℕ) (b : Bench) (bytes : List ℕ) {r : Registers} {m : List (List Page)} {mem wire : List ℕ} {have : ℕ} {out lines : List ℕ} {end number : ℕ}

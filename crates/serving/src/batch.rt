@@ -3,6 +3,7 @@ use crate::task::Task;
 use crate::task::task_of;
 use crate::turn::answer_moving;
 use crate::turn::answer_still;
+use records::Counter;
 use state::Answer;
 use state::Registers;
 use state::Stepped;
@@ -13,6 +14,7 @@ ghost use lib.ListN.{length, take, drop};
 ghost use Rattle.rules.specs.Bench.{line};
 ghost use Rattle.lists.specs.Written.{Writes};
 ghost use Rattle.state.specs.View.{view, replyOf};
+ghost use Rattle.records.specs.Counting.{Counts};
 ghost use Rattle.records.specs.Gathers.{holding};
 ghost use Rattle.serving.specs.Turns.{Held};
 ghost use Rattle.serving.specs.Batch.{Answered};
@@ -34,14 +36,12 @@ fn record_at(input: &[u8], at: usize) -> [u8; 8]
     ]
 }
 
-// The line of a record, which is counted; returns the place behind the line.
-fn print(lines: &mut [u8], at: usize, number: &mut u64, answer: Answer) -> usize
-    requires { ⌜ (at + 40 ≤ length (now lines)) × (now number + 1 ≤ 0xffffffffffffffff) ⌝ }
-    ensures { λ end. ⌜ Writes (now (lines .entry)) at (line (now (number .entry)) (replyOf answer)) (now (lines .exit)) end × (end ≤ at + 30) × (now (number .exit) ≡ now (number .entry) + 1) ⌝ }
+// The line of a record; returns the place behind it.
+fn print(lines: &mut [u8], at: usize, counter: Counter, answer: Answer) -> usize
+    requires { ⌜ Counts counter × (at + 40 ≤ length (now lines)) ⌝ }
+    ensures { λ end. ⌜ Writes (now (lines .entry)) at (line (counter .number) (replyOf answer)) (now (lines .exit)) end × (end ≤ at + 30) ⌝ }
 {
-    let end = records::line_at(lines, at, *number, state::printed(answer));
-    *number += 1;
-    end
+    records::line_at(lines, at, counter, state::printed(answer))
 }
 
 // Each complete record of the input; the lines stand before `end`.
@@ -64,6 +64,7 @@ pub fn answer_all(
 {
     let mut at = 0;
     *end = 0;
+    let mut counter = records::counter_of(*number);
     while at + 8 <= input.len() {
         let bytes = record_at(input, at);
         at += 8;
@@ -73,7 +74,8 @@ pub fn answer_all(
                 let t = answer_still(still, r, map, memory, wire, have, bytes);
                 let answer = t.answer;
                 r = t.registers;
-                *end = print(lines, *end, number, answer);
+                *end = print(lines, *end, counter, answer);
+                counter = records::next(counter);
                 continue;
             }
             Task::Moving(moving) => {
@@ -81,9 +83,11 @@ pub fn answer_all(
                 let answer = s.answer;
                 r = s.registers;
                 map = state::pages_of(s);
-                *end = print(lines, *end, number, answer);
+                *end = print(lines, *end, counter, answer);
+                counter = records::next(counter);
             }
         }
     }
+    *number = counter.number;
     state::make_stepped(Answer::Done(0), r, map)
 }

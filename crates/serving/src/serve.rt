@@ -50,7 +50,7 @@ fn cut_short(lines: &mut [u8], kept: usize, number: u64)
         return;
     }
     let shown = state::printed(Answer::CutShort);
-    let end = records::line_at(lines, 0, number, shown);
+    let end = records::line_at(lines, 0, records::counter_of(number), shown);
     write_lines(lines, end);
 }
 

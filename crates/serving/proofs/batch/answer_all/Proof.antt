@@ -6,6 +6,7 @@ use native.Mathlib.Omega.{arith}
 use lib.ListN.{length, take, drop}
 use Rattle.rules.specs.Bench as rules
 use Rattle.state.specs.View.{view}
+use Rattle.records.specs.Counting.{Counts}
 use Rattle.records.specs.Gathers.{holding}
 use Rattle.serving.specs.declared.task.Task.{Task}
 use Rattle.serving.specs.Tasks.{Means}
@@ -24,23 +25,37 @@ record-told at input h e = let k : at ≡ 8 * (at / 8) = omega arith in e ∙ ap
 
 -- A record of eight bytes has a line of at most thirty, and no buffer changes its length.
 abbrev Inv-loop : tie.InvT-loop
-Inv-loop r₀ map₀ memory₀ wire₀ have₀ out₀ input lines₀ end₀ number₀ at₀ r map memory wire have out lines end number at =
+Inv-loop r₀ map₀ memory₀ wire₀ have₀ out₀ input lines₀ end₀ number at₀ counter₀ r map memory wire have out lines end at counter =
     (at ≤ length input) × (at % 8 ≡ 0) × (end * 4 ≤ at * 15)
-    × Answered (at / 8) number₀ input (holding (view r₀ map₀ memory₀) (take have₀ wire₀) out₀) r map memory wire have out lines end number
+    × Answered (at / 8) number input (holding (view r₀ map₀ memory₀) (take have₀ wire₀) out₀) r map memory wire have out lines end (counter .number) × Counts counter
     × (length memory ≡ length memory₀) × (length wire ≡ length wire₀) × (length out ≡ length out₀) × (length lines ≡ length lines₀)
 
 abbrev μ-loop : tie.MeasureT-loop
-μ-loop r₀ map₀ memory₀ wire₀ have₀ out₀ input lines₀ end₀ number₀ at₀ r map memory wire have out lines end number at =
+μ-loop r₀ map₀ memory₀ wire₀ have₀ out₀ input lines₀ end₀ number at₀ counter₀ r map memory wire have out lines end at counter =
     length input - at
+
+counter-of-requires : tie.Need-counter-of-requires Inv-loop μ-loop
+counter-of-requires c κs =
+    search needs
 
 loop-holds : tie.Need-loop-holds Inv-loop μ-loop
 loop-holds c =
-    let s = c .before .before .before .before .before in
-    (search needs, refl, search needs, none-yet _ _ (s .args .r) (s .args .map) (s .args .memory .now) (s .args .wire .now) (s .args .have .now) (s .args .out .now) (s .args .lines .now) (s .pre .0), refl, refl, refl, refl)
+    let s = c .before .before .before .before .before .before .before in
+    let e = c .counter-of .ensures in (
+      search needs,
+      refl,
+      search needs,
+      none-yet (s .args .input .now) (s .args .r) (s .args .map) (s .args .memory .now) (s .args .wire .now) (s .args .have .now) (s .args .out .now) (s .args .lines .now) (e .0) (s .pre .0),
+      e .1,
+      refl,
+      refl,
+      refl,
+      refl,
+    )
 
 add-loop : tie.Need-add-loop Inv-loop μ-loop
 add-loop c =
-    omega (arith, c .loop .inv .0, c .before .before .before .before .before .before .pre .1 .0)
+    omega (arith, c .loop .inv .0, c .before .before .before .before .before .before .before .before .pre .1 .0)
 
 record-at-requires : tie.Need-record-at-requires Inv-loop μ-loop
 record-at-requires c κs =
@@ -48,7 +63,7 @@ record-at-requires c κs =
 
 add-at : tie.Need-add-at Inv-loop μ-loop
 add-at c =
-    omega (arith, c .before .loop-test .taken, c .before .before .before .before .before .before .before .before .pre .1 .0)
+    omega (arith, c .before .loop-test .taken, c .before .before .before .before .before .before .before .before .before .before .pre .1 .0)
 
 task-of-requires : tie.Need-task-of-requires Inv-loop μ-loop
 task-of-requires c κs =
@@ -65,10 +80,15 @@ answer-still-requires c κs =
 
 print-requires : tie.Need-print-requires Inv-loop μ-loop
 print-requires c κs =
-    let v = c .before .before .before .before .before .before .before .before .before .before .before .before .before .before .before .before .before .before .loop .inv in
-    let p = c .before .before .before .before .before .before .before .before .before .before .before .before .before .before .before .before .before .before .before .before .before .before .before .before .pre .1 in
-    let t = c .before .before .before .before .before .before .before .before .before .before .before .before .before .before .before .before .before .loop-test .taken in
-    (omega (arith, v .2, v .7, p .0, p .1, t), omega (arith, v .3 .counted, p .2, p .0, t))
+    let v = c .before .before .before .before .before .before .before .before .before .before .before .before .before .before .before .before .before .loop .inv in
+    let p = c .before .before .before .before .before .before .before .before .before .before .before .before .before .before .before .before .before .before .before .before .before .before .before .before .before .pre .1 in
+    (v .4, omega (arith, v .2, v .8, p .0, p .1, c .before .before .before .before .before .before .before .before .before .before .before .before .before .before .before .before .loop-test .taken))
+
+next-requires : tie.Need-next-requires Inv-loop μ-loop
+next-requires c κs =
+    let v = c .before .before .before .before .before .before .before .before .before .before .before .before .before .before .before .before .before .before .before .before .loop .inv in
+    let p = c .before .before .before .before .before .before .before .before .before .before .before .before .before .before .before .before .before .before .before .before .before .before .before .before .before .before .before .before .pre .1 in
+    (v .4, omega (arith, v .3 .counted, p .2, p .0, c .before .before .before .before .before .before .before .before .before .before .before .before .before .before .before .before .before .before .before .loop-test .taken))
 
 loop-less : tie.Need-loop-less Inv-loop μ-loop
 loop-less c =
@@ -79,19 +99,20 @@ loop-again c =
     let a = c .before .before .before .before .before .before .before .before .before .before .before in
     let q = a .before .before .before .before .before .before .before .before in
     let l = q .before .before in
-    let s = l .before .before .before .before .before .before in
+    let s = l .before .before .before .before .before .before .before .before in
     let v = l .loop .inv in
-    let p = c .before .before .print .ensures in
+    let p = c .before .before .before .print .ensures in
     let t = c .before .before .before .before .before .before .before .before .before .before .before .before .before .before .before .before .before .before .before .before .loop-test .taken in (
       t,
       omega (arith, v .1),
       omega (arith, v .2, p .1),
       one-more (l .loop .at / 8) _ _ (s .args .input .now) _ (q .record-at .result) (omega arith) (record-told (l .loop .at) (s .args .input .now) (v .1) (q .record-at .ensures))
-          (omega (arith, v .2, v .7, s .pre .1 .0, s .pre .1 .1, t)) (v .3) (a .answer-still .ensures (l .loop .out)) (p .0) (p .2),
-      c .before .before .before .before .before .before .before .before .before .before .memory .given ∙ v .4,
-      c .before .before .before .before .before .before .before .before .wire .given ∙ v .5,
-      v .6,
-      c .before .lines .given ∙ v .7,
+          (omega (arith, v .2, v .8, s .pre .1 .0, s .pre .1 .1, t)) (v .3) (a .answer-still .ensures (l .loop .out)) (p .0) (c .next .ensures .0),
+      c .next .ensures .1,
+      c .before .before .before .before .before .before .before .before .before .before .memory .given ∙ v .5,
+      c .before .before .before .before .before .before .before .before .wire .given ∙ v .6,
+      v .7,
+      c .before .before .lines .given ∙ v .8,
     )
 
 enum-known-task-2 : tie.Need-enum-known-task-2 Inv-loop μ-loop
@@ -108,10 +129,15 @@ pages-of-requires c κs =
 
 print-requires-2 : tie.Need-print-requires-2 Inv-loop μ-loop
 print-requires-2 c κs =
-    let v = c .before .before .before .before .before .before .before .before .before .before .before .before .before .before .before .before .before .before .before .before .loop .inv in
-    let p = c .before .before .before .before .before .before .before .before .before .before .before .before .before .before .before .before .before .before .before .before .before .before .before .before .before .before .pre .1 in
-    let t = c .before .before .before .before .before .before .before .before .before .before .before .before .before .before .before .before .before .before .before .loop-test .taken in
-    (omega (arith, v .2, v .7, p .0, p .1, t), omega (arith, v .3 .counted, p .2, p .0, t))
+    let v = c .before .before .before .before .before .before .before .before .before .before .before .before .before .before .before .before .before .before .before .loop .inv in
+    let p = c .before .before .before .before .before .before .before .before .before .before .before .before .before .before .before .before .before .before .before .before .before .before .before .before .before .before .before .pre .1 in
+    (v .4, omega (arith, v .2, v .8, p .0, p .1, c .before .before .before .before .before .before .before .before .before .before .before .before .before .before .before .before .before .before .loop-test .taken))
+
+next-requires-2 : tie.Need-next-requires-2 Inv-loop μ-loop
+next-requires-2 c κs =
+    let v = c .before .before .before .before .before .before .before .before .before .before .before .before .before .before .before .before .before .before .before .before .before .before .loop .inv in
+    let p = c .before .before .before .before .before .before .before .before .before .before .before .before .before .before .before .before .before .before .before .before .before .before .before .before .before .before .before .before .before .before .pre .1 in
+    (v .4, omega (arith, v .3 .counted, p .2, p .0, c .before .before .before .before .before .before .before .before .before .before .before .before .before .before .before .before .before .before .before .before .before .loop-test .taken))
 
 loop-less-2 : tie.Need-loop-less-2 Inv-loop μ-loop
 loop-less-2 c =
@@ -122,9 +148,9 @@ loop-again-2 c =
     let a = c .before .before .before .before .before .before .before .before .before .before .before .before in
     let q = a .before .before .before .before .before .before .before .before .before in
     let l = q .before .before in
-    let s = l .before .before .before .before .before .before in
+    let s = l .before .before .before .before .before .before .before .before in
     let v = l .loop .inv in
-    let p = c .before .before .print2 .ensures in
+    let p = c .before .before .before .print2 .ensures in
     let t = c .before .before .before .before .before .before .before .before .before .before .before .before .before .before .before .before .before .before .before .before .before .before .loop-test .taken in
     let m = meant-by (q .record-at .result) (l .loop .r .bank) (c .before .before .before .before .before .before .before .before .before .before .before .before .before .before .before .before .before .before .task2 .given .1) (c .before .before .before .before .before .before .before .before .before .before .before .before .before .before .before .before .before .before .before .before .task-of .ensures) in (
       t,
@@ -132,11 +158,12 @@ loop-again-2 c =
       omega (arith, v .2, p .1),
       rw (c .before .before .before .before .before .before .pages-of .ensures)
           (one-more (l .loop .at / 8) _ _ (s .args .input .now) _ (q .record-at .result) (omega arith) (record-told (l .loop .at) (s .args .input .now) (v .1) (q .record-at .ensures))
-          (omega (arith, v .2, v .7, s .pre .1 .0, s .pre .1 .1, t)) (v .3) (a .answer-moving .ensures _ m) (p .0) (p .2)),
-      c .before .before .before .before .before .before .before .before .before .before .before .memory2 .given ∙ v .4,
-      v .5,
-      c .before .before .before .before .before .before .before .before .before .out .given ∙ v .6,
-      c .before .lines2 .given ∙ v .7,
+          (omega (arith, v .2, v .8, s .pre .1 .0, s .pre .1 .1, t)) (v .3) (a .answer-moving .ensures _ m) (p .0) (c .next2 .ensures .0)),
+      c .next2 .ensures .1,
+      c .before .before .before .before .before .before .before .before .before .before .before .memory2 .given ∙ v .5,
+      v .6,
+      c .before .before .before .before .before .before .before .before .before .out .given ∙ v .7,
+      c .before .before .lines2 .given ∙ v .8,
     )
 
 make-stepped-requires : tie.Need-make-stepped-requires Inv-loop μ-loop
@@ -145,24 +172,24 @@ make-stepped-requires c κs =
 
 same-length : tie.Need-same-length Inv-loop μ-loop
 same-length c =
-    c .before .before .loop .inv .4
+    c .before .before .loop .inv .5
 
 same-length-2 : tie.Need-same-length-2 Inv-loop μ-loop
 same-length-2 c =
-    c .before .before .loop .inv .5
+    c .before .before .loop .inv .6
 
 same-length-3 : tie.Need-same-length-3 Inv-loop μ-loop
 same-length-3 c =
-    c .before .before .loop .inv .6
+    c .before .before .loop .inv .7
 
 same-length-4 : tie.Need-same-length-4 Inv-loop μ-loop
 same-length-4 c =
-    c .before .before .loop .inv .7
+    c .before .before .loop .inv .8
 
 returns : tie.Need-returns Inv-loop μ-loop
 returns c =
     let l = c .before .before in
-    let s = l .before .before .before .before .before .before in
+    let s = l .before .before .before .before .before .before .before .before in
     let v = l .loop .inv in
     let e : length (s .args .input .now) / 8 ≡ l .loop .at / 8 = omega (arith, v .0, v .1, c .before .loop-test .left) in
     (rw (c .make-stepped .ensures, e) (v .3), omega (arith, v .0, v .2, s .pre .1 .0))
@@ -173,6 +200,7 @@ answer-all-spec =
     (tie.spec
     Inv-loop
     μ-loop
+    counter-of-requires
     loop-holds
     add-loop
     record-at-requires
@@ -181,12 +209,14 @@ answer-all-spec =
     enum-known-task
     answer-still-requires
     print-requires
+    next-requires
     loop-less
     loop-again
     enum-known-task-2
     answer-moving-requires
     pages-of-requires
     print-requires-2
+    next-requires-2
     loop-less-2
     loop-again-2
     make-stepped-requires

@@ -1,6 +1,5 @@
-use mathlib.Core.Path.{_≡_, refl, ap, ap₂, sym, _∙_}
+use mathlib.Core.Path.{_≡_, ap}
 use Prim.Native.Nat.{ℕ}
-use native.Mathlib.Omega.{arith}
 use Rattle.rules.specs.Answers.{Reply}
 use Rattle.rules.specs.Bench.{line}
 use Rattle.lists.specs.Written.{writes-as}
@@ -16,7 +15,7 @@ returns : tie.Need-returns
 returns c =
     let l = c .before .before in
     let p = l .before .printed .ensures in
-    (writes-as (ap (line (l .before .before .before .before .before .args .number .now)) (reply-of (p .0) (p .1))) (l .line-at .ensures .0), l .line-at .ensures .1, refl)
+    (writes-as (ap (line (l .before .before .before .before .args .counter .number)) (reply-of (p .0) (p .1))) (l .line-at .ensures .0), l .line-at .ensures .1)
 
 pub print-spec : {M : Type 1} → statement M
-print-spec = tie.close (tie.spec (λ c κs. search needs) (λ c κs. search needs) (λ c. search needs) (λ c. search needs) returns)
+print-spec = tie.close (tie.spec (λ c κs. search needs) (λ c κs. search needs) (λ c. search needs) returns)
