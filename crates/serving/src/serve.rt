@@ -6,14 +6,14 @@ use state::Answer;
 use state::Registers;
 use store::Page;
 ghost use mathlib.Core.Path.{_≡_};
-ghost use Prim.Native.Nat.{_≤_, _<_};
-ghost use lib.ListN.{length};
+ghost use Prim.Native.Nat.{_-_, _%_, _≤_, _<_};
+ghost use lib.ListN.{length, take, drop};
 ghost use Rattle.serving.specs.Turns.{Held};
 
 // Reads what is there behind the bytes that are kept, and returns how many stand there then: as many as before where the input ends or cannot be read.
 fn read_more(input: &mut [u8], kept: usize) -> usize
     requires { ⌜ kept ≤ length (now input) ⌝ }
-    ensures { λ filled. ⌜ filled ≤ length (now (input .entry)) ⌝ }
+    ensures { λ filled. ⌜ (kept ≤ filled) × (filled ≤ length (now (input .entry))) × (take kept (now (input .exit)) ≡ take kept (now (input .entry))) ⌝ }
 {
     let rest = &mut input[kept..];
     let got = libc::read(STDIN_FILENO, rest);
@@ -23,7 +23,7 @@ fn read_more(input: &mut [u8], kept: usize) -> usize
 // The bytes behind the last complete record go to the front; returns how many they are.
 fn keep_tail(input: &mut [u8], filled: usize) -> usize
     requires { ⌜ filled ≤ length (now input) ⌝ }
-    ensures { λ kept. ⌜ kept < 8 ⌝ }
+    ensures { λ kept. ⌜ (kept ≡ filled % 8) × (take kept (now (input .exit)) ≡ take kept (drop (filled - kept) (now (input .entry)))) ⌝ }
 {
     let kept = filled % 8;
     let whole = filled - kept;
@@ -54,8 +54,7 @@ fn cut_short(lines: &mut [u8], kept: usize, number: u64)
     write_lines(lines, end);
 }
 
-// Every record is answered before more is waited for. The loop counts its turns down from a number that no run uses up, and with them
-// the record number stays within its 64 bits.
+// Every record is answered before more is waited for. The loop ends at record 2^63, which no run comes to.
 fn serve_from(
     mut r: Registers,
     mut map: [[Page; 8]; 24],
@@ -72,8 +71,7 @@ fn serve_from(
     let mut end = 0;
     let mut number: u64 = 1;
     let mut kept = 0;
-    let mut turns: u64 = 0x20000000000000;
-    while turns > 0 {
+    while number < 0x8000000000000000 {
         let filled = read_more(input, kept);
         if filled == kept {
             cut_short(lines, kept, number);
@@ -97,7 +95,6 @@ fn serve_from(
             return;
         }
         kept = keep_tail(input, filled);
-        turns -= 1;
     }
 }
 

@@ -1,6 +1,6 @@
 use borrow.Author.Needs.{needs}
 use mathlib.Core.Path.{_≡_, refl, sym, _∙_}
-use Prim.Native.Nat.{_+_, _*_, _≤_, _<_}
+use Prim.Native.Nat.{_+_, _*_, _-_, _≤_, _<_}
 use native.Mathlib.Omega.{arith}
 use lib.ListN.{length}
 use lib.Seq.{length-take-le}
@@ -9,17 +9,16 @@ use Rattle.serving.proofs.serve.serve_from.Statement.{statement}
 use Rattle.serving.proofs.serve.serve_from.Tie as tie
 
 abbrev Inv-loop : tie.InvT-loop
-Inv-loop r₀ map₀ memory₀ wire₀ out₀ input₀ lines₀ have₀ end₀ number₀ kept₀ turns₀ r map memory wire out input lines have end number kept turns =
+Inv-loop r₀ map₀ memory₀ wire₀ out₀ input₀ lines₀ have₀ end₀ number₀ kept₀ r map memory wire out input lines have end number kept =
     Held r map memory wire have × (end ≤ 32768) × (kept < 8)
     × (length memory ≡ length memory₀) × (length wire ≡ length wire₀) × (length out ≡ length out₀) × (length input ≡ length input₀) × (length lines ≡ length lines₀)
-    × (number + 1024 * turns ≤ 9223372036854775809)
 
 abbrev μ-loop : tie.MeasureT-loop
-μ-loop r₀ map₀ memory₀ wire₀ out₀ input₀ lines₀ have₀ end₀ number₀ kept₀ turns₀ r map memory wire out input lines have end number kept turns =
-    turns
+μ-loop r₀ map₀ memory₀ wire₀ out₀ input₀ lines₀ have₀ end₀ number₀ kept₀ r map memory wire out input lines have end number kept =
+    73786976294838206472 - (8 * number + kept)
 
 loop-holds : tie.Need-loop-holds Inv-loop μ-loop
-loop-holds c = let s = c .before .before .before .before .before in (s .pre .0, search needs, search needs, refl, refl, refl, refl, refl, omega arith)
+loop-holds c = let s = c .before .before .before .before .before in (s .pre .0, search needs, search needs, refl, refl, refl, refl, refl)
 
 read-more-requires : tie.Need-read-more-requires Inv-loop μ-loop
 read-more-requires c κs = let l = c .before .before in omega (arith, l .loop .inv .2, l .loop .inv .6, l .before .before .before .before .before .before .pre .1 .0)
@@ -43,10 +42,10 @@ same-length-5 : tie.Need-same-length-5 Inv-loop μ-loop
 same-length-5 c = c .before .lines .given ∙ c .before .before .before .before .before .before .before .before .before .before .loop .inv .7
 
 slice-reshare-prefix-answer-all : tie.Need-slice-reshare-prefix-answer-all Inv-loop μ-loop
-slice-reshare-prefix-answer-all c = let i = c .before .before .before .before .before .before in omega (arith, i .input .given, i .before .read-more .ensures)
+slice-reshare-prefix-answer-all c = let i = c .before .before .before .before .before .before in omega (arith, i .input .given, i .before .read-more .ensures .1)
 
 slice-aggregate-answer-all : tie.Need-slice-aggregate-answer-all Inv-loop μ-loop
-slice-aggregate-answer-all c = let i = c .before .before .before .before .before .before .before in sym (length-take-le _ _ (omega (arith, i .input .given, i .before .read-more .ensures)))
+slice-aggregate-answer-all c = let i = c .before .before .before .before .before .before .before in sym (length-take-le _ _ (omega (arith, i .input .given, i .before .read-more .ensures .1)))
 
 answer-all-requires : tie.Need-answer-all-requires Inv-loop μ-loop
 answer-all-requires c κs =
@@ -54,7 +53,7 @@ answer-all-requires c κs =
     let l = i .before .before .before .before in
     let v = l .loop .inv in
     let p = l .before .before .before .before .before .before .pre .1 in
-    (v .0, (omega (arith, slice-aggregate-answer-all (c .before .before .before), i .before .read-more .ensures, v .6, p .0), omega (arith, v .7, p .1), omega (arith, v .8, i .before .before .before .loop-test .taken)))
+    (v .0, (omega (arith, slice-aggregate-answer-all (c .before .before .before), i .before .read-more .ensures .1, v .6, p .0), omega (arith, v .7, p .1), omega (arith, i .before .before .before .loop-test .taken)))
 
 write-lines-requires : tie.Need-write-lines-requires Inv-loop μ-loop
 write-lines-requires c κs = let l = c .before .before .before .before .before .before .before .before .before .before .before .before .before .before .before .before .before .before .before .before .before .before .before .before .before .before in omega (arith, c .before .before .before .before .before .before .before .before .before .before .before .answer-all .ensures .1, c .before .before .before .before .lines2 .given, l .loop .inv .7, l .before .before .before .before .before .before .pre .1 .1)
@@ -75,13 +74,20 @@ same-length-10 : tie.Need-same-length-10 Inv-loop μ-loop
 same-length-10 c = c .before .before .before .before .before .before .lines2 .given ∙ c .before .before .before .before .before .before .before .before .before .before .before .before .before .before .before .before .before .before .before .before .before .before .before .before .before .before .before .before .loop .inv .7
 
 keep-tail-requires : tie.Need-keep-tail-requires Inv-loop μ-loop
-keep-tail-requires c κs = let i = c .before .before .before .before .before .before .before .before .before .before .before .before .before .before .before .before .before .before .before .before .before .before .before .before .before in omega (arith, i .input .given, i .before .read-more .ensures)
-
-sub-turns : tie.Need-sub-turns Inv-loop μ-loop
-sub-turns c = omega (arith, c .before .before .before .before .before .before .before .before .before .before .before .before .before .before .before .before .before .before .before .before .before .before .before .before .before .before .before .before .before .before .before .loop-test .taken)
+keep-tail-requires c κs = let i = c .before .before .before .before .before .before .before .before .before .before .before .before .before .before .before .before .before .before .before .before .before .before .before .before .before in omega (arith, i .input .given, i .before .read-more .ensures .1)
 
 loop-less : tie.Need-loop-less Inv-loop μ-loop
-loop-less c = omega (arith, c .before .before .before .before .before .before .before .before .before .before .before .before .before .before .before .before .before .before .before .before .before .before .before .before .before .before .before .before .before .before .before .loop-test .taken)
+loop-less c =
+    omega (
+      arith,
+      c .before .before .before .before .before .before .before .before .before .before .before .before .before .before .before .before .before .answer-all .ensures .0 .counted,
+      slice-aggregate-answer-all (c .before .before .before .before .before .before .before .before .before .before .before .before .before .before .before .before .before .before .before .before .before),
+      c .before .before .keep-tail .ensures .0,
+      c .before .before .before .before .before .before .before .before .before .before .before .before .before .before .before .before .before .before .before .before .before .before .before .before .before .before .before .before .before .read-more .ensures .0,
+      c .before .before .before .before .before .before .before .before .before .before .before .before .before .before .before .before .before .before .before .before .before .before .before .before .before .before .if1 .left,
+      c .before .before .before .before .before .before .before .before .before .before .before .before .before .before .before .before .before .before .before .before .before .before .before .before .before .before .before .before .before .before .before .loop-test .taken,
+      c .before .before .before .before .before .before .before .before .before .before .before .before .before .before .before .before .before .before .before .before .before .before .before .before .before .before .before .before .before .before .before .before .loop .inv .2,
+    )
 
 loop-again : tie.Need-loop-again Inv-loop μ-loop
 loop-again c =
@@ -89,13 +95,12 @@ loop-again c =
     let v = c .before .before .before .before .before .before .before .before .before .before .before .before .before .before .before .before .before .before .before .before .before .before .before .before .before .before .before .before .before .before .before .before .loop .inv in (
       rw (c .before .before .before .before .before .before .before .pages-of .ensures) (a .0 .held),
       a .1,
-      c .before .before .keep-tail .ensures,
+      omega (arith, c .before .before .keep-tail .ensures .0),
       c .before .before .before .before .before .before .before .before .before .before .before .before .before .before .before .before .memory .given ∙ v .3,
       c .before .before .before .before .before .before .before .before .before .before .before .before .before .before .wire .given ∙ v .4,
       c .before .before .before .before .before .before .before .before .before .before .before .before .out .given ∙ v .5,
       c .before .input2 .given ∙ c .before .before .before .before .before .before .before .before .before .before .before .before .before .before .before .before .before .before .before .before .before .before .before .before .before .before .before .before .input .given ∙ v .6,
       c .before .before .before .before .before .before .before .before .before .before .lines2 .given ∙ v .7,
-      omega (arith, a .0 .counted, slice-aggregate-answer-all (c .before .before .before .before .before .before .before .before .before .before .before .before .before .before .before .before .before .before .before .before .before), c .before .before .before .before .before .before .before .before .before .before .before .before .before .before .before .before .before .before .before .before .before .before .before .before .before .before .before .before .before .read-more .ensures, v .6, c .before .before .before .before .before .before .before .before .before .before .before .before .before .before .before .before .before .before .before .before .before .before .before .before .before .before .before .before .before .before .before .before .before .before .before .before .before .before .pre .1 .0, v .8, c .before .before .before .before .before .before .before .before .before .before .before .before .before .before .before .before .before .before .before .before .before .before .before .before .before .before .before .before .before .before .before .loop-test .taken),
     )
 
 same-length-11 : tie.Need-same-length-11 Inv-loop μ-loop
@@ -140,7 +145,6 @@ serve-from-spec =
     same-length-10
     (λ c. search needs)
     keep-tail-requires
-    sub-turns
     loop-less
     loop-again
     same-length-11
