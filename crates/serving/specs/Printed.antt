@@ -34,6 +34,37 @@ lines-later (suc n) k input b =
     (ap₂ line e (ap₂ (λ (l : List ℕ) (d : Bench). answer (eventOf l) d .reply) (record-later n input) (bench-later n input b)))
     ∙ append-assoc (line k (first input b .reply)) _ _
 
+-- One batch after another: the bench and the lines after n records and m more are those of m records from there on.
+pub bench-joined : (n m : ℕ) (input : List ℕ) (b : Bench) → benchAfter (n + m) input b ≡ benchAfter m (drop (8 * n) input) (benchAfter n input b)
+unfolding benchAfter
+bench-joined zero m input b = let z : 0 + m ≡ m = omega arith in ap (λ (i : ℕ). benchAfter i input b) z
+bench-joined (suc n) m input b =
+    let e : 8 * suc n ≡ 8 + 8 * n = omega arith in
+    let g : suc n + m ≡ suc (n + m) = omega arith in
+    ap (λ (i : ℕ). benchAfter i input b) g
+    ∙ bench-later (n + m) input b
+    ∙ bench-joined n m (drop 8 input) (first input b .bench)
+    ∙ ap₂ (λ (l : List ℕ) (d : Bench). benchAfter m l d) (drop-drop (8 * n) 8 input ∙ ap (λ (i : ℕ). drop i input) (sym e)) (sym (bench-later n input b))
+
+pub lines-joined : (n m k : ℕ) (input : List ℕ) (b : Bench) → linesFor (n + m) k input b ≡ linesFor n k input b ++ linesFor m (k + n) (drop (8 * n) input) (benchAfter n input b)
+unfolding benchAfter linesFor
+lines-joined zero m k input b =
+    let z : 0 + m ≡ m = omega arith in
+    let e : k + 0 ≡ k = omega arith in
+    ap₂ (λ (j i : ℕ). linesFor j i input b) z (sym e)
+lines-joined (suc n) m k input b =
+    let e : 8 * suc n ≡ 8 + 8 * n = omega arith in
+    let f : k + 1 + n ≡ k + suc n = omega arith in
+    let g : suc n + m ≡ suc (n + m) = omega arith in
+    let l = line k (first input b .reply) in
+    ap (λ (i : ℕ). linesFor i k input b) g
+    ∙ lines-later (n + m) k input b
+    ∙ ap (λ (x : List ℕ). l ++ x) (lines-joined n m (k + 1) (drop 8 input) (first input b .bench))
+    ∙ sym (append-assoc l (linesFor n (k + 1) (drop 8 input) (first input b .bench)) _)
+    ∙ ap₂ (λ (x y : List ℕ). x ++ y) (sym (lines-later n k input b))
+    (ap₂ (λ (i : ℕ) (r : List ℕ). linesFor m i r (benchAfter n (drop 8 input) (first input b .bench))) f (drop-drop (8 * n) 8 input ∙ ap (λ (i : ℕ). drop i input) (sym e))
+    ∙ ap (linesFor m (k + suc n) (drop (8 * suc n) input)) (sym (bench-later n input b)))
+
 -- the line of a record that the input's end cuts short after t bytes
 abbrev pub lastLine : ℕ → ℕ → List ℕ
 lastLine zero k = []
