@@ -37,7 +37,7 @@ fn record_at(input: &[u8], at: usize) -> [u8; 8]
 }
 
 // The line of a record; returns the place behind it.
-fn print(lines: &mut [u8], at: usize, counter: Counter, answer: Answer) -> usize
+pub fn print(lines: &mut [u8], at: usize, counter: Counter, answer: Answer) -> usize
     requires { ⌜ Counts counter × (at + 40 ≤ length (now lines)) ⌝ }
     ensures { λ end. ⌜ Writes (now (lines .entry)) at (line (counter .number) (replyOf answer)) (now (lines .exit)) end × (end ≤ at + 30) ⌝ }
 {

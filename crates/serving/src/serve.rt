@@ -1,5 +1,6 @@
 // From standard input to standard output: what is there is read, its complete records are answered, and their lines are written, until the input ends.
 use crate::batch::answer_all;
+use crate::batch::print;
 use libc::STDIN_FILENO;
 use libc::STDOUT_FILENO;
 use state::Answer;
@@ -49,8 +50,7 @@ fn cut_short(lines: &mut [u8], kept: usize, number: u64)
     if kept == 0 {
         return;
     }
-    let shown = state::printed(Answer::CutShort);
-    let end = records::line_at(lines, 0, records::counter_of(number), shown);
+    let end = print(lines, 0, records::counter_of(number), Answer::CutShort);
     write_lines(lines, end);
 }
 

@@ -34,10 +34,6 @@ abbrev μ-loop : tie.MeasureT-loop
 μ-loop r₀ map₀ memory₀ wire₀ have₀ out₀ input lines₀ end₀ number at₀ counter₀ r map memory wire have out lines end at counter =
     length input - at
 
-counter-of-requires : tie.Need-counter-of-requires Inv-loop μ-loop
-counter-of-requires c κs =
-    search needs
-
 loop-holds : tie.Need-loop-holds Inv-loop μ-loop
 loop-holds c =
     let s = c .before .before .before .before .before .before .before in
@@ -68,10 +64,6 @@ add-at c =
 task-of-requires : tie.Need-task-of-requires Inv-loop μ-loop
 task-of-requires c κs =
     c .before .before .loop .inv .3 .held .chip .ready .well .bankSmall
-
-enum-known-task : tie.Need-enum-known-task Inv-loop μ-loop
-enum-known-task c =
-    search needs
 
 answer-still-requires : tie.Need-answer-still-requires Inv-loop μ-loop
 answer-still-requires c κs =
@@ -115,17 +107,9 @@ loop-again c =
       c .before .before .lines .given ∙ v .8,
     )
 
-enum-known-task-2 : tie.Need-enum-known-task-2 Inv-loop μ-loop
-enum-known-task-2 c =
-    search needs
-
 answer-moving-requires : tie.Need-answer-moving-requires Inv-loop μ-loop
 answer-moving-requires c κs =
     c .before .before .before .before .before .before .before .before .before .before .loop .inv .3 .held
-
-pages-of-requires : tie.Need-pages-of-requires Inv-loop μ-loop
-pages-of-requires c κs =
-    search needs
 
 print-requires-2 : tie.Need-print-requires-2 Inv-loop μ-loop
 print-requires-2 c κs =
@@ -166,10 +150,6 @@ loop-again-2 c =
       c .before .before .lines2 .given ∙ v .8,
     )
 
-make-stepped-requires : tie.Need-make-stepped-requires Inv-loop μ-loop
-make-stepped-requires c κs =
-    search needs
-
 same-length : tie.Need-same-length Inv-loop μ-loop
 same-length c =
     c .before .before .loop .inv .5
@@ -200,26 +180,26 @@ answer-all-spec =
     (tie.spec
     Inv-loop
     μ-loop
-    counter-of-requires
+    (λ c κs. search needs)
     loop-holds
     add-loop
     record-at-requires
     add-at
     task-of-requires
-    enum-known-task
+    (λ c. search needs)
     answer-still-requires
     print-requires
     next-requires
     loop-less
     loop-again
-    enum-known-task-2
+    (λ c. search needs)
     answer-moving-requires
-    pages-of-requires
+    (λ c κs. search needs)
     print-requires-2
     next-requires-2
     loop-less-2
     loop-again-2
-    make-stepped-requires
+    (λ c κs. search needs)
     same-length
     same-length-2
     same-length-3

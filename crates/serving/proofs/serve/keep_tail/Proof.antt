@@ -35,33 +35,9 @@ Inv-loop input₀ filled kept whole i₀ input i =
 abbrev μ-loop : tie.MeasureT-loop
 μ-loop input₀ filled kept whole i₀ input i = kept - i
 
-sub-whole : tie.Need-sub-whole Inv-loop μ-loop
-sub-whole c =
-    search needs
-
 loop-holds : tie.Need-loop-holds Inv-loop μ-loop
 loop-holds c =
     (search needs, search needs, refl, refl)
-
-add-input : tie.Need-add-input Inv-loop μ-loop
-add-input c =
-    search needs
-
-slice-read-input : tie.Need-slice-read-input Inv-loop μ-loop
-slice-read-input c =
-    search needs
-
-slice-write-input : tie.Need-slice-write-input Inv-loop μ-loop
-slice-write-input c =
-    search needs
-
-add-i : tie.Need-add-i Inv-loop μ-loop
-add-i c =
-    search needs
-
-loop-less : tie.Need-loop-less Inv-loop μ-loop
-loop-less c =
-    search needs
 
 loop-again : tie.Need-loop-again Inv-loop μ-loop
 loop-again c =
@@ -96,13 +72,13 @@ keep-tail-spec =
     (tie.spec
     Inv-loop
     μ-loop
-    sub-whole
+    (λ c. search needs)
     loop-holds
-    add-input
-    slice-read-input
-    slice-write-input
-    add-i
-    loop-less
+    (λ c. search needs)
+    (λ c. search needs)
+    (λ c. search needs)
+    (λ c. search needs)
+    (λ c. search needs)
     loop-again
     same-length
     returns)

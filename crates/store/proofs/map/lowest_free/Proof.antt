@@ -25,30 +25,10 @@ Inv-loop need marks row₀ got₀ p₀ row got p =
 abbrev μ-loop : tie.MeasureT-loop
 μ-loop need marks row₀ got₀ p₀ row got p = 24 - p
 
-owned-pages-requires : tie.Need-owned-pages-requires Inv-loop μ-loop
-owned-pages-requires c κs =
-    search needs
-
 loop-holds : tie.Need-loop-holds Inv-loop μ-loop
 unfolding freeBelow
 loop-holds c =
     (search needs, search needs, c .before .pre, λ ls h. (refl, refl))
-
-cast-if2 : tie.Need-cast-if2 Inv-loop μ-loop
-cast-if2 c =
-    search needs
-
-array-read-if2 : tie.Need-array-read-if2 Inv-loop μ-loop
-array-read-if2 c =
-    search needs
-
-add-p : tie.Need-add-p Inv-loop μ-loop
-add-p c =
-    search needs
-
-loop-less : tie.Need-loop-less Inv-loop μ-loop
-loop-less c =
-    search needs
 
 loop-again : tie.Need-loop-again Inv-loop μ-loop
 loop-again c =
@@ -62,22 +42,6 @@ loop-again c =
           let same = free-owned p ls (sym (h p (c .before .before .loop-test .taken)) ∙ c .if2 .taken) in
           (v .3 ls h .0 ∙ ap length (sym same), v .3 ls h .1 ∙ ap rowOf (sym same)),
     )
-
-array-set-from-row : tie.Need-array-set-from-row Inv-loop μ-loop
-array-set-from-row c =
-    search needs
-
-add-got : tie.Need-add-got Inv-loop μ-loop
-add-got c =
-    search needs
-
-add-p-2 : tie.Need-add-p-2 Inv-loop μ-loop
-add-p-2 c =
-    search needs
-
-loop-less-2 : tie.Need-loop-less-2 Inv-loop μ-loop
-loop-less-2 c =
-    search needs
 
 loop-again-2 : tie.Need-loop-again-2 Inv-loop μ-loop
 loop-again-2 c =
@@ -121,17 +85,17 @@ lowest-free-spec =
     (tie.spec
     Inv-loop
     μ-loop
-    owned-pages-requires
+    (λ c κs. search needs)
     loop-holds
-    cast-if2
-    array-read-if2
-    add-p
-    loop-less
+    (λ c. search needs)
+    (λ c. search needs)
+    (λ c. search needs)
+    (λ c. search needs)
     loop-again
-    array-set-from-row
-    add-got
-    add-p-2
-    loop-less-2
+    (λ c. search needs)
+    (λ c. search needs)
+    (λ c. search needs)
+    (λ c. search needs)
     loop-again-2
     returns
     returns-2)

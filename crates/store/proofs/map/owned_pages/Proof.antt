@@ -42,10 +42,6 @@ array-copy-out-place-at : tie.Need-array-copy-out-place-at Inv-loop μ-loop Inv-
 array-copy-out-place-at c =
     c .loop .inv .2
 
-place-at-requires : tie.Need-place-at-requires Inv-loop μ-loop Inv-rows μ-rows
-place-at-requires c κs =
-    search needs
-
 add-k : tie.Need-add-k Inv-loop μ-loop Inv-rows μ-rows
 add-k c =
     omega (arith, c .before .before .before .before .loop .inv .2)
@@ -58,10 +54,6 @@ rows-again : tie.Need-rows-again Inv-loop μ-loop Inv-rows μ-rows
 rows-again c =
     let a = c .before .before .before .before in
     (omega (arith, a .loop .inv .2), covers-row (covers-as (c .before .before .place-at .ensures .ends (c .if1 .taken)) (a .loop .inv .3)))
-
-marked-requires : tie.Need-marked-requires Inv-loop μ-loop Inv-rows μ-rows
-marked-requires c κs =
-    search needs
 
 add-j : tie.Need-add-j Inv-loop μ-loop Inv-rows μ-rows
 add-j c =
@@ -96,11 +88,11 @@ owned-pages-spec =
     loop-holds
     mul-place-at
     array-copy-out-place-at
-    place-at-requires
+    (λ c κs. search needs)
     add-k
     rows-less
     rows-again
-    marked-requires
+    (λ c κs. search needs)
     add-j
     loop-less
     loop-again
