@@ -4,16 +4,14 @@ use crate::Page;
 use crate::row::holds;
 use crate::row::nth_page;
 use crate::row::pages_in;
-use crate::row::place_at;
 use crate::row::unused;
 ghost use mathlib.Core.Path.{_≡_};
-ghost use mathlib.Core.Bool.{false};
-ghost use mathlib.Core.List.{List, [], _∷_};
-ghost use Prim.Native.Nat.{ℕ, _≤_, _<_};
+ghost use mathlib.Core.List.{[]};
+ghost use Prim.Native.Nat.{_≤_, _<_};
 ghost use lib.ListN.{length, take, drop, set, getD, replicate};
 ghost use Rattle.rules.specs.Lists.{owned, some?, firstEmpty, freeBelow};
 ghost use Rattle.rules.specs.WellFormed.{GoodPages};
-ghost use Rattle.store.specs.Views.{used, rowOf, pagesOf, SoundMap, Marked};
+ghost use Rattle.store.specs.Views.{used, rowOf, pagesOf, SoundMap};
 
 // Does a packet from number `from` on own the page?
 pub fn owned_from(map: [[Page; 8]; 24], from: usize, page: Page) -> bool
@@ -93,56 +91,25 @@ pub fn free_count(map: [[Page; 8]; 24]) -> usize
     24 - owned
 }
 
-// The marks with the page marked too.
-fn marked(marks: [bool; 24], page: Page) -> [bool; 24]
-    ensures { λ r. ⌜ Marked marks (page .0) r ⌝ }
-{
-    if 24 <= page.0 {
-        return marks;
-    }
-    let mut next = marks;
-    next[page.0 as usize] = true;
-    next
-}
-
-// For each page, whether a packet owns it.
-fn owned_pages(map: [[Page; 8]; 24]) -> [bool; 24]
-    ensures { λ r. ⌜ ((p : ℕ) → p < 24 → getD r p false ≡ owned p (pagesOf map)) ⌝ }
-{
-    let mut marks = [false; 24];
-    let mut k = 0;
-    'rows: while k < 24 {
-        let mut j = 0;
-        loop {
-            let x = place_at(map[k], j);
-            if x.0 == 255 {
-                k += 1;
-                continue 'rows;
-            }
-            let more = marked(marks, x);
-            marks = more;
-            j += 1;
-        }
-    }
-    marks
-}
-
 // The lowest pages that no packet owns, `need` of them or as many as there are.
 pub fn lowest_free(map: [[Page; 8]; 24], need: usize) -> [Page; 8]
     requires { ⌜ need ≤ 8 ⌝ }
     ensures { λ r. ⌜ r ≡ rowOf (take need (freeBelow 24 (pagesOf map))) ⌝ }
 {
-    let marks = owned_pages(map);
     let mut row = [Page(255); 8];
     let mut got = 0;
     let mut p: u8 = 0;
-    while p < 24 {
+    'pages: while p < 24 {
         if got == need {
             break;
         }
-        if marks[p as usize] {
-            p += 1;
-            continue;
+        let mut k = 0;
+        while k < 24 {
+            if holds(map[k], Page(p)) {
+                p += 1;
+                continue 'pages;
+            }
+            k += 1;
         }
         row[got] = Page(p);
         got += 1;

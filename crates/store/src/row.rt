@@ -6,7 +6,7 @@ ghost use mathlib.Core.Bool.{not};
 ghost use lib.Dec.{leb};
 ghost use lib.ListN.{length, getD};
 ghost use Rattle.rules.specs.Lists.{member, some?};
-ghost use Rattle.store.specs.Views.{used, rowOf, Stands};
+ghost use Rattle.store.specs.Views.{used, rowOf};
 
 // Does the row list the page?
 pub fn holds(row: [Page; 8], page: Page) -> bool
@@ -47,16 +47,6 @@ pub fn pages_in(row: [Page; 8]) -> usize
         j += 1;
     }
     j
-}
-
-// What stands at a place of the row; behind its eight places, as where it ends, Page(255).
-pub fn place_at(row: [Page; 8], j: usize) -> Page
-    ensures { λ x. ⌜ Stands row j (x .0) ⌝ }
-{
-    if 8 <= j {
-        return Page(255);
-    }
-    row[j]
 }
 
 // Page k of the row.
