@@ -3,8 +3,8 @@ use crate::access::place_of;
 use store::Address;
 use store::Page;
 ghost use mathlib.Core.Path.{_≡_};
-ghost use Prim.Native.Nat.{_+_, _-_, _%_, _≤_, min};
-ghost use lib.ListN.{length, take, drop};
+ghost use Prim.Native.Nat.{_+_, _%_, _≤_, min};
+ghost use lib.ListN.{length};
 ghost use Rattle.rules.specs.Answers.{over};
 ghost use Rattle.rules.specs.Packet.{getBytes, putBytes};
 ghost use Rattle.store.specs.Views.{used};
@@ -30,21 +30,14 @@ pub fn fill_part(part: &mut [u8], bytes: &[u8])
     }
 }
 
-// The page from the address on is a part from the middle of memory, and what goes there a part of the frame; both are lent to `fill_part`.
-pub fn fill_page(
-    memory: &mut [u8],
-    row: [Page; 8],
-    at: Address,
-    frame: &[u8],
-    from: usize,
-    to: usize,
-)
-    requires { ⌜ (from ≤ to) × (to ≤ length (now frame)) × (at .0 % 256 + (to - from) ≤ 256) × Room (at .0 + 1) row (now memory) ⌝ }
-    ensures { λ _. ⌜ now (memory .exit) ≡ putBytes (take (to - from) (drop from (now (frame .entry)))) (at .0) (used row) (now (memory .entry)) ⌝ }
+// The page from the address on is a part from the middle of memory. It is lent to `fill_part` with the part of a frame that goes there.
+pub fn fill_page(memory: &mut [u8], row: [Page; 8], at: Address, part: &[u8])
+    requires { ⌜ (at .0 % 256 + length (now part) ≤ 256) × Room (at .0 + 1) row (now memory) ⌝ }
+    ensures { λ _. ⌜ now (memory .exit) ≡ putBytes (now (part .entry)) (at .0) (used row) (now (memory .entry)) ⌝ }
 {
     let start = place_of(row, at);
     let end = start + (256 - at.0 as usize % 256);
-    fill_part(&mut memory[start..end], &frame[from..to]);
+    fill_part(&mut memory[start..end], part);
 }
 
 // Fills the buffer with the packet's bytes from the address on, all in one page.

@@ -13,8 +13,8 @@ ghost use Rattle.rules.specs.Receive.{countOf, trailer};
 ghost use Rattle.store.specs.Views.{used};
 ghost use Rattle.packet.specs.Room.{Room, imageOf};
 
-// The first n bytes of the frame, from packet address 4 on. Page k (k at least 1), at address 256k, is lent with the part of the frame that starts at
-// byte 256k - 4 and is cut at n: an empty part where n is 256k - 4.
+// The first n bytes of the frame, from packet address 4 on. Page k (k at least 1) is at address 256k: the part of the frame that starts at byte
+// 256k - 4, as much as the page holds and cut at n, is handed on to fill it. The part is empty where n is 256k - 4.
 pub fn store_data(memory: &mut [u8], row: [Page; 8], frame: &[u8], n: usize)
     requires { ⌜ (n ≤ length (now frame)) × Room (n + 5) row (now memory) ⌝ }
     ensures { λ _. ⌜ now (memory .exit) ≡ putBytes (take n (now (frame .entry))) 4 (used row) (now (memory .entry)) ⌝ }
@@ -22,14 +22,9 @@ pub fn store_data(memory: &mut [u8], row: [Page; 8], frame: &[u8], n: usize)
     let mut at = 4;
     while at <= n + 4 {
         let next = (at / 256 + 1) * 256;
-        fill_page(
-            memory,
-            row,
-            Address(at as u16),
-            frame,
-            at - 4,
-            least(n, next - 4),
-        );
+        let from = at - 4;
+        let to = least(n, next - 4);
+        fill_page(memory, row, Address(at as u16), &frame[from..to]);
         at = next;
     }
 }

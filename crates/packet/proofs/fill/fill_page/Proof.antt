@@ -1,9 +1,9 @@
 use borrow.Author.Needs.{needs}
 use mathlib.Core.Path.{ap, _∙_}
 use mathlib.Core.List.{List, _++_}
-use Prim.Native.Nat.{ℕ, _+_, _-_, _%_, _≤_}
+use Prim.Native.Nat.{ℕ, _+_, _-_, _%_}
 use native.Mathlib.Omega.{arith}
-use lib.ListN.{length, take, drop, length-take}
+use lib.ListN.{take, drop}
 use Rattle.lists.specs.Bytes.{part-put}
 use Rattle.store.specs.Views.{used}
 use Rattle.packet.proofs.fill.fill_page.Statement.{statement}
@@ -11,28 +11,22 @@ use Rattle.packet.proofs.fill.fill_page.Tie as tie
 
 returns : tie.Need-returns
 returns c =
-    let p = c .before .before .before .before .before .before in
-    let x = p .before .before .before .args in
-    let pre = p .before .before .before .pre in
+    let p = c .before .before .before .before .before in
+    let s = p .before .before .before in
+    let x = s .args in
     let m = x .memory .now in
     let a = x .at .0 in
     let i = p .place-of .result in
     let k = i + (256 - a % 256) - i in
-    let bytes = take (x .to - x .from) (drop (x .from) (x .frame .now)) in
-    let n : length bytes ≤ x .to - x .from = simp length-take (omega arith) in
-    let whole = pre .3 .whole in
     ap (λ (y : List ℕ). take i m ++ (y ++ drop k (drop i m))) (c .before .before .fill-part .ensures)
-    ∙ part-put (used (x .row)) bytes m a i k (p .place-of .ensures .0)
-    (omega (arith, n, pre .2)) (omega (arith, n, pre .2)) (omega (arith, whole, p .place-of .ensures .1))
+    ∙ part-put (used (x .row)) (x .part .now) m a i k (p .place-of .ensures .0)
+    (s .pre .0) (omega (arith, s .pre .0)) (omega (arith, s .pre .1 .whole, p .place-of .ensures .1))
 
 pub fill-page-spec : {M : Type 1} → statement M
 fill-page-spec =
     tie.close
     (tie.spec
     (λ c κs. search needs)
-    (λ c. search needs)
-    (λ c. search needs)
-    (λ c. search needs)
     (λ c. search needs)
     (λ c. search needs)
     (λ c. search needs)

@@ -3,7 +3,7 @@ use mathlib.Core.Path.{_≡_, ap, _∙_}
 use mathlib.Core.List.{List}
 use Prim.Native.Nat.{ℕ, _+_, _-_, _≤_, min}
 use native.Mathlib.Omega.{arith}
-use lib.ListN.{length, take, drop}
+use lib.ListN.{length, take, drop, length-take}
 use Rattle.rules.specs.Packet.{putBytes}
 use Rattle.lists.specs.Bytes.{put-on, length-put}
 use Rattle.store.specs.Views.{used}
@@ -37,22 +37,26 @@ loop-holds c =
     let e : min (s .args .n) 0 ≡ 0 = omega arith in
     (search needs, room-small (s .pre .1) (s .good .1 .0 .1 .0 .1), rw e)
 
+-- the part starts no later than it ends
+sub-fill-page : tie.Need-sub-fill-page Inv-loop μ-loop
+sub-fill-page c = omega arith
+
 fill-page-requires : tie.Need-fill-page-requires Inv-loop μ-loop
 fill-page-requires c κs =
-    let a = c .before .before .before in
-    let s = a .before .before .before in
+    let l = c .before .before in
+    let a = l .before .before in
     let v = a .loop .inv in
-    let t = c .before .before .loop-test .taken in
-    let to = c .least .ensures in
-    (omega (arith, v .0, t, to), omega (arith, s .pre .0, to), omega (arith, v .0, t, to), room-less (kept a) _ (omega (arith, t)))
+    let t = l .before .loop-test .taken in
+    (simp length-take (omega (arith, v .0, t, l .least .ensures)), room-less (kept a) _ (omega (arith, t)))
 
 loop-again : tie.Need-loop-again Inv-loop μ-loop
 loop-again c =
-    let l = c .before .before .before in
-    let a = l .before .before .before in
+    let p = c .before .before in
+    let l = p .before .before .before in
+    let a = l .before .before in
     let s = a .before .before .before in
     let v = a .loop .inv in
-    let t = l .before .before .loop-test .taken in
+    let t = l .before .loop-test .taken in
     let frame = s .args .frame .now in
     let pages = used (s .args .row) in
     let at = a .loop .at in
@@ -62,7 +66,7 @@ loop-again c =
     let e : at ≡ from + 4 = omega (arith, v .0) in (
       search needs,
       v .1,
-      c .before .before .fill-page .ensures
+      p .fill-page .ensures
           ∙ ap (λ (m : List ℕ). putBytes part at pages m) (upto a from (omega (arith, v .0, t)))
           ∙ ap (λ (i : ℕ). putBytes part i pages (putBytes (take from frame) 4 pages (s .args .memory .now))) e
           ∙ put-on frame pages (s .args .memory .now) from to 4 (omega (arith, v .0, t, l .least .ensures)) (omega (arith, s .pre .0, l .least .ensures))
@@ -87,8 +91,11 @@ store-data-spec =
     (λ c. search needs)
     (λ c. search needs)
     (λ c. search needs)
-    (λ c. search needs)
     (λ c κs. search needs)
+    (λ c. search needs)
+    sub-fill-page
+    (λ c. search needs)
+    (λ c. search needs)
     fill-page-requires
     (λ c. search needs)
     loop-again
