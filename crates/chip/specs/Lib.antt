@@ -1,4 +1,4 @@
 -- What the entries' parameters stand for in `rules`.
-pub mod Parts
+pub mod Lanes
 pub mod Entry
 pub mod Writes

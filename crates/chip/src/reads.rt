@@ -13,7 +13,7 @@ ghost use Rattle.rules.specs.Step as steps;
 ghost use Rattle.registers.specs.Meaning.{widthOf, partOf, registerOf, Known};
 ghost use Rattle.state.specs.View.{view, Touches};
 ghost use Rattle.state.specs.Promise.{InOrder, Right};
-ghost use Rattle.chip.specs.Parts.{wide};
+ghost use Rattle.chip.specs.Lanes.{wide};
 ghost use Rattle.chip.specs.Entry.{besideMap};
 
 // The answer alone: nothing changes.

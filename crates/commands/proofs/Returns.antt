@@ -3,7 +3,7 @@ use mathlib.Core.Path.{_≡_, refl, subst, _∙_}
 use mathlib.Core.List.{List, []}
 use Prim.Native.Nat.{ℕ}
 use Rattle.rules.specs.Chip.{Chip}
-use Rattle.rules.specs.Answers.{Step, did}
+use Rattle.rules.specs.Answers.{Effect, did}
 use Rattle.rules.specs.Mmu.{Command, perform, ifIdle}
 use Rattle.store.specs.declared.Page.{Page}
 use Rattle.store.specs.Views.{SoundMap}
@@ -35,7 +35,7 @@ module _ (k : Command) (r : Registers) (m : List (List Page)) where
   refuses a s w p x mem = rw (x, p mem) (record { chip = refl; reply = refl; queues = w .queues; map = w .map })
 
   -- refusals 5 and 6, of a command on the packet number register
-  module _ (f : Chip → Step) (p : (c : Chip) → perform k c ≡ ifIdle c (f c)) where
+  module _ (f : Chip → Effect) (p : (c : Chip) → perform k c ≡ ifIdle c (f c)) where
     pub refuses-5 : (s : Stepped) → Ready r m → {i : Idle} → i ≡ idle.NotAllocated → IsIdle i (view r m []) → s ≡ record { answer = NotAllocated; registers = r; pages = m } → Performs k r m s
     refuses-5 s w e h x = refuses NotAllocated s w (λ mem. p (view r m mem) ∙ idle-5 (view r m mem) (f (view r m mem)) (told r m e h)) x
 

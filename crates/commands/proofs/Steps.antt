@@ -1,5 +1,5 @@
 -- What a command does, case by case, with its tests answered; and what well-formedness gives a command.
-use mathlib.Core.Path.{_≡_, refl}
+use mathlib.Core.Path.{_≡_, refl, ap}
 use mathlib.Core.Bool.{true, false}
 use mathlib.Core.Logic.{⊎-elim}
 use mathlib.Core.List.{List, [], _∷_, _++_}
@@ -10,12 +10,12 @@ use lib.ListN.{length, getD, drop}
 use Rattle.rules.specs.Lists.{member}
 use Rattle.rules.specs.Chip.{Chip, free, allocated}
 use Rattle.rules.specs.Fields.{setResult, setRx, setTx, inRegisters, inPool}
-use Rattle.rules.specs.Answers.{Step, did, refuse}
+use Rattle.rules.specs.Answers.{Effect, did, refuse}
 use Rattle.rules.specs.WellFormed.{WellFormed}
 use Rattle.rules.specs.Mmu.{allocate, removeRx, removeAndRelease, release, enqueue, unknown, decode, perform, grant, giveBack, queued, ifIdle, ifHead}
-use Rattle.lists.specs.Facts.{member-first, member-cases}
-use Rattle.laws.specs.Count.{distinct-few}
-use Rattle.laws.specs.Pool.{has-small}
+use Rattle.lists.specs.Facts.{no-head, head-and-rest, member-at, member-cases}
+use Rattle.wellformed.specs.Count.{distinct-few}
+use Rattle.wellformed.specs.Pool.{has-small}
 
 -- The values that are ranges.
 pub decode-allocate : (v : ℕ) → 32 ≤ v → v < 40 → decode v ≡ allocate (v % 8 + 1)
@@ -37,57 +37,51 @@ module _ (c : Chip) where
   allocates-none n h = rw (lt-leb _ _ h)
 
   -- by the RX head
-  head-none : (f : ℕ → List ℕ → Step) (l : List ℕ) → length l ≡ 0 → ifHead c l f ≡ refuse 7 c
-  head-none f [] h = refl
-  head-none f (k ∷ ks) h = absurd (omega arith)
+  by-none : (f : ℕ → List ℕ → Effect) → length (c .pool .rx) ≡ 0 → ifHead c (c .pool .rx) f ≡ refuse 7 c
+  by-none f h = ap (λ (l : List ℕ). ifHead c l f) (no-head (c .pool .rx) h)
 
-  head-some : (f : ℕ → List ℕ → Step) (l : List ℕ) → 0 < length l → ifHead c l f ≡ f (getD l 0 0) (drop 1 l)
-  head-some f [] h = absurd (omega arith)
-  head-some f (k ∷ ks) h = refl
+  by-first : (f : ℕ → List ℕ → Effect) → 0 < length (c .pool .rx) → ifHead c (c .pool .rx) f ≡ f (getD (c .pool .rx) 0 0) (drop 1 (c .pool .rx))
+  by-first f h = ap (λ (l : List ℕ). ifHead c l f) (head-and-rest (c .pool .rx) 0 h)
 
   pub removes-none : length (c .pool .rx) ≡ 0 → perform removeRx c ≡ refuse 7 c
   unfolding perform
-  removes-none h = head-none _ (c .pool .rx) h
+  removes-none h = by-none _ h
 
   pub removes : 0 < length (c .pool .rx) → perform removeRx c ≡ did (inPool (setRx (drop 1 (c .pool .rx))) c)
   unfolding perform
-  removes h = head-some _ (c .pool .rx) h
+  removes h = by-first _ h
 
   pub releases-none : length (c .pool .rx) ≡ 0 → perform removeAndRelease c ≡ refuse 7 c
   unfolding perform
-  releases-none h = head-none _ (c .pool .rx) h
+  releases-none h = by-none _ h
 
   pub releases-head : 0 < length (c .pool .rx) → perform removeAndRelease c ≡ did (giveBack (getD (c .pool .rx) 0 0) (inPool (setRx (drop 1 (c .pool .rx))) c))
   unfolding perform
-  releases-head h = head-some _ (c .pool .rx) h
+  releases-head h = by-first _ h
 
   -- by the packet number register
-  pub releases : perform release c ≡ ifIdle c (did (giveBack (c .regs .packet) c))
+  pub releases : perform release c ≡ ifIdle c (did (giveBack (c .regs .numbers .packet) c))
   unfolding perform
   releases = refl
 
-  pub enqueues : perform enqueue c ≡ ifIdle c (did (inPool (setTx (c .pool .tx ++ (c .regs .packet ∷ []))) c))
+  pub enqueues : perform enqueue c ≡ ifIdle c (did (inPool (setTx (c .pool .tx ++ (c .regs .numbers .packet ∷ []))) c))
   unfolding perform
   enqueues = refl
 
-  module _ (s : Step) where
-    pub idle-5 : allocated (c .regs .packet) c ≡ false → ifIdle c s ≡ refuse 5 c
+  module _ (s : Effect) where
+    pub idle-5 : allocated (c .regs .numbers .packet) c ≡ false → ifIdle c s ≡ refuse 5 c
     idle-5 a = rw a
 
-    pub idle-6 : allocated (c .regs .packet) c ≡ true → queued (c .regs .packet) c ≡ true → ifIdle c s ≡ refuse 6 c
+    pub idle-6 : allocated (c .regs .numbers .packet) c ≡ true → queued (c .regs .numbers .packet) c ≡ true → ifIdle c s ≡ refuse 6 c
     idle-6 a q = rw (a, q)
 
-    pub idle-done : allocated (c .regs .packet) c ≡ true → queued (c .regs .packet) c ≡ false → ifIdle c s ≡ s
+    pub idle-done : allocated (c .regs .numbers .packet) c ≡ true → queued (c .regs .numbers .packet) c ≡ false → ifIdle c s ≡ s
     idle-done a q = rw (a, q)
 
 -- What well-formedness gives a command.
 module _ (c : Chip) (w : WellFormed c) where
   pub head-small : 0 < length (c .pool .rx) → getD (c .pool .rx) 0 0 < 24
-  head-small h = go (c .pool .rx) refl h
-    where
-      go : (l : List ℕ) → c .pool .rx ≡ l → 0 < length l → getD l 0 0 < 24
-      go [] e b = absurd (omega arith)
-      go (k ∷ ks) e b = omega (arith, has-small (c .pool .pages) k (w .queues .rxAllocated k (rw e (member-first k ks))), w .count)
+  head-small h = omega (arith, has-small (c .pool .pages) _ (w .queues .rxAllocated _ (member-at (c .pool .rx) 0 h)), w .count)
 
   pub packet-small : (k : ℕ) → allocated k c ≡ true → k < 24
   packet-small k a = omega (arith, has-small (c .pool .pages) k a, w .count)

@@ -32,6 +32,6 @@ Performs k r m s = (mem : List ℕ) → Makes (perform k (view r m mem)) mem s
 
 -- what `register_idle` says of the packet of the packet number register
 abbrev pub IsIdle : Idle → Chip → Type 0
-IsIdle idle.Yes c = (allocated (c .regs .packet) c ≡ true) × (queued (c .regs .packet) c ≡ false)
-IsIdle idle.NotAllocated c = allocated (c .regs .packet) c ≡ false
-IsIdle idle.StillQueued c = (allocated (c .regs .packet) c ≡ true) × (queued (c .regs .packet) c ≡ true)
+IsIdle idle.Yes c = (allocated (c .regs .numbers .packet) c ≡ true) × (queued (c .regs .numbers .packet) c ≡ false)
+IsIdle idle.NotAllocated c = allocated (c .regs .numbers .packet) c ≡ false
+IsIdle idle.StillQueued c = (allocated (c .regs .numbers .packet) c ≡ true) × (queued (c .regs .numbers .packet) c ≡ true)

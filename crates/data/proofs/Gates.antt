@@ -11,7 +11,7 @@ use lib.ListN.{length, getD, List·getD-eq-default}
 use Rattle.rules.specs.Lists.{some?}
 use Rattle.rules.specs.Chip.{Chip, pagesAt}
 use Rattle.rules.specs.Fields.{setPointer, inRegisters}
-use Rattle.rules.specs.Answers.{Reply, Step, refusal, refuse}
+use Rattle.rules.specs.Answers.{Reply, Effect, refusal, refuse}
 use Rattle.rules.specs.WellFormed.{WellFormed}
 use Rattle.rules.specs.Mmu.{ifHead}
 use Rattle.rules.specs.Data.{rcv, against, oddFixed, past, address, ifPacket, ifOpen}
@@ -42,8 +42,8 @@ abbrev gates : Bool → Bool → Bool → Bool → Answer → Gate
 gates some against odd reached absent =
     firstOf (refusedIf (not some) absent) (firstOf (refusedIf against AgainstRead) (firstOf (refusedIf odd OddPointer) (refusedIf (not reached) PastPages)))
 
-in-order : (n a o q : Bool) (x : Answer) (k : ℕ) → replyOf x ≡ refusal k → (c : Chip) (s : Step)
-    → cond n (cond a (refuse 8 c) (cond o (refuse 9 c) (cond (not q) (refuse 10 c) s))) (refuse k c) ≡ through (gates n a o q x) c s
+in-order : (n a o q : Bool) (x : Answer) (k : ℕ) → replyOf x ≡ refusal k → (c : Chip) (s : Effect)
+    → cond (not n) (refuse k c) (cond a (refuse 8 c) (cond o (refuse 9 c) (cond (not q) (refuse 10 c) s))) ≡ through (gates n a o q x) c s
 in-order false a o q x k e c s = ap (λ (r : Reply). record { reply = r; chip = c }) (sym e)
 in-order true true o q x k e c s = refl
 in-order true false true q x k e c s = refl
@@ -75,20 +75,20 @@ guards isRead width p row absent {reached} {end} f e h =
     }
 
 -- An access goes by the pages of the packet that is meant.
-module _ (c : Chip) (w : WellFormed c) (access : List ℕ → Step) where
-  abbrev by : ℕ → Bool → Step
-  by k b = cond (some? (pagesAt c k)) (access (pagesAt c k)) (refuse (cond b 7 5) c)
+module _ (c : Chip) (w : WellFormed c) (access : List ℕ → Effect) where
+  abbrev by : ℕ → Bool → Effect
+  by k b = cond (not (some? (pagesAt c k))) (refuse (cond b 7 5) c) (access (pagesAt c k))
 
   by-head : (rx : List ℕ) → c .pool .rx ≡ rx → ifHead c rx (λ k ks. access (pagesAt c k)) ≡ by (headOr24 rx) true
   unfolding some?
   by-head [] e = rw (List·getD-eq-default (c .pool .pages) [] {n = 24} (omega (arith, w .count)))
   by-head (k ∷ ks) e = rw (w .queues .rxAllocated k (rw e (member-first k ks)))
 
-  by-meant : ifPacket c access ≡ by (meantBy (c .regs .pointer) (c .regs .packet) (c .pool .rx)) (rcv (c .regs .pointer))
+  by-meant : ifPacket c access ≡ by (meantBy (c .regs .pointer) (c .regs .numbers .packet) (c .pool .rx)) (rcv (c .regs .pointer))
   unfolding ifPacket meantBy
   by-meant = go (rcv (c .regs .pointer))
     where
-      go : (b : Bool) → cond b (ifHead c (c .pool .rx) (λ k ks. access (pagesAt c k))) (by (c .regs .packet) false) ≡ by (cond b (headOr24 (c .pool .rx)) (c .regs .packet)) b
+      go : (b : Bool) → cond b (ifHead c (c .pool .rx) (λ k ks. access (pagesAt c k))) (by (c .regs .numbers .packet) false) ≡ by (cond b (headOr24 (c .pool .rx)) (c .regs .numbers .packet)) b
       go false = refl
       go true = by-head (c .pool .rx) refl
 
@@ -104,19 +104,19 @@ checked-is {m = m} w e f h = record { ready = w; pages = e ∙ ap (λ (i : ℕ).
 
 module _ {r : Registers} {m : List (List Page)} {isRead : Bool} {width : ℕ} {row : List Page} {g : Gate} (k : Checked r m isRead width row g) (mem : List ℕ) where
   -- An access is what the gate does with it.
-  passes : (f : List ℕ → Step) → ifPacket (view r m mem) (λ pages. ifOpen isRead width pages (view r m mem) (f pages)) ≡ through g (view r m mem) (f (used row))
+  passes : (f : List ℕ → Effect) → ifPacket (view r m mem) (λ pages. ifOpen isRead width pages (view r m mem) (f pages)) ≡ through g (view r m mem) (f (used row))
   unfolding ifAny
   passes f =
       by-meant (view r m mem) (k .ready .well) (λ pages. ifOpen isRead width pages (view r m mem) (f pages))
       ∙ ap (λ (l : List ℕ). ifAny isRead width l (view r m mem) (f l)) (sym (k .pages))
       ∙ k .guards .step (view r m mem) (f (used row)) refl
 
-  pub refuses : (a : Answer) → g ≡ Refused a → (f : List ℕ → Step)
+  pub refuses : (a : Answer) → g ≡ Refused a → (f : List ℕ → Effect)
       → Touches (ifPacket (view r m mem) (λ pages. ifOpen isRead width pages (view r m mem) (f pages))) m mem (record { answer = a; registers = r })
   refuses a e f = rw (passes f, e) (record { chip = refl; reply = refl; queues = k .ready .queues })
 
   module _ (e : g ≡ Open) where
-    pub goes : (f : List ℕ → Step) (mem′ : List ℕ) (x : Touched) → Touches (f (used row)) m mem′ x
+    pub goes : (f : List ℕ → Effect) (mem′ : List ℕ) (x : Touched) → Touches (f (used row)) m mem′ x
         → Touches (ifPacket (view r m mem) (λ pages. ifOpen isRead width pages (view r m mem) (f pages))) m mem′ x
     goes f mem′ x t = rw (passes f, e) t
 

@@ -1,13 +1,13 @@
 -- What the parts of a data access promise: which packet the pointer means, whether the access may go on, and how many bytes it moves.
 use mathlib.Core.Path.{_≡_}
-use mathlib.Core.Bool.{Bool, true, false, cond}
+use mathlib.Core.Bool.{Bool, true, false, cond, not}
 use mathlib.Core.List.{List, [], _∷_}
 use Prim.Native.Nat.{ℕ, _+_, _*_, _≤_}
 use lib.ListN.{length}
 use Rattle.rules.specs.Bits.{lowByte, highByte}
 use Rattle.rules.specs.Lists.{some?}
 use Rattle.rules.specs.Chip.{Chip}
-use Rattle.rules.specs.Answers.{Step, refuse}
+use Rattle.rules.specs.Answers.{Effect, refuse}
 use Rattle.rules.specs.Data.{rcv, address, ifOpen}
 use Rattle.store.specs.declared.Page.{Page}
 use Rattle.store.specs.Views.{used}
@@ -34,8 +34,8 @@ unfoldable pub meantBy : ℕ → ℕ → List ℕ → ℕ
 meantBy pointer packet rx = cond (rcv pointer) (headOr24 rx) packet
 
 -- an access to a packet with these pages: refusal 7 or 5 where there are none, then 8, 9 and 10
-unfoldable pub ifAny : Bool → ℕ → List ℕ → Chip → Step → Step
-ifAny isRead width pages c s = cond (some? pages) (ifOpen isRead width pages c s) (refuse (cond (rcv (c .regs .pointer)) 7 5) c)
+unfoldable pub ifAny : Bool → ℕ → List ℕ → Chip → Effect → Effect
+ifAny isRead width pages c s = cond (not (some? pages)) (refuse (cond (rcv (c .regs .pointer)) 7 5) c) (ifOpen isRead width pages c s)
 
 -- a gate that refuses where the test holds, and the first of two that refuses
 abbrev pub refusedIf : Bool → Answer → Gate
@@ -47,11 +47,11 @@ firstOf Open g = g
 firstOf (Refused a) g = Refused a
 
 -- what a gate does with the access behind it
-abbrev pub through : Gate → Chip → Step → Step
+abbrev pub through : Gate → Chip → Effect → Effect
 through Open c s = s
 through (Refused a) c s = record { reply = replyOf a; chip = c }
 
 -- the gate is that of the rules; and behind an open one the bytes are within the packet's pages
 pub record Guards (isRead : Bool) (width pointer : ℕ) (row : List Page) (g : Gate) : Type 0 where
-  pub step : (c : Chip) (s : Step) → c .regs .pointer ≡ pointer → ifAny isRead width (used row) c s ≡ through g c s
+  pub step : (c : Chip) (s : Effect) → c .regs .pointer ≡ pointer → ifAny isRead width (used row) c s ≡ through g c s
   pub room : g ≡ Open → address pointer + width ≤ 256 * length (used row)

@@ -9,7 +9,7 @@ use lib.Dec.{leb, ltb, leb·zero}
 use lib.ListN.{length, drop, getD}
 use lib.Seq.{drop-cons}
 use Rattle.rules.specs.Lists.{member, some?, owned}
-use Rattle.rules.specs.WellFormed.{above, ascends, allBelow, apart, noneOwned, pagesGood, queueGood}
+use Rattle.rules.specs.Tests.{above, ascends, allBelow, apart, noneOwned, pagesGood, queueGood}
 use Rattle.guard.specs.Tests.{blank}
 
 -- one entry, and those behind it

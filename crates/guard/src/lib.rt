@@ -10,12 +10,12 @@ use state::Registers;
 use store::Page;
 ghost use mathlib.Core.Path.{_≡_};
 ghost use Rattle.lists.specs.Facts.{Decides};
-ghost use Rattle.rules.specs.WellFormed.{numbersGood};
+ghost use Rattle.rules.specs.Tests.{numbersGood};
 ghost use Rattle.state.specs.View.{registersOf, Ready};
 
 // Are bank, packet number and allocation result in range?
 fn numbers_good(r: Registers) -> bool
-    ensures { λ b. ⌜ b ≡ numbersGood 24 (registersOf r) ⌝ }
+    ensures { λ b. ⌜ b ≡ numbersGood 24 (registersOf r .numbers) ⌝ }
 {
     if 8 <= r.bank {
         return false;

@@ -5,7 +5,7 @@ use store::Queue;
 ghost use mathlib.Core.Path.{_≡_};
 ghost use Prim.Native.Nat.{_≤_, _<_};
 ghost use lib.ListN.{length, drop, getD};
-ghost use Rattle.rules.specs.WellFormed.{allBelow, apart, queueGood, queuesGood};
+ghost use Rattle.rules.specs.Tests.{allBelow, apart, queueGood, queuesGood};
 ghost use Rattle.lists.specs.Facts.{Decides};
 ghost use Rattle.store.specs.Views.{number, pagesOf, entries, SoundQueue};
 ghost use Rattle.state.specs.View.{SoundQueues};
@@ -116,7 +116,7 @@ fn all_below(q: Queue) -> bool
 // Are the entries of the queues what document 01 asks?
 pub fn queues_good(map: [[Page; 8]; 24], rx: Queue, tx: Queue, done: Queue) -> bool
     requires { ⌜ SoundQueues rx tx done ⌝ }
-    ensures { λ b. ⌜ b ≡ queuesGood 24 (record { pages = pagesOf map; rx = entries rx; tx = entries tx; done = entries done }) ⌝ }
+    ensures { λ b. ⌜ b ≡ queuesGood 24 (record { pages = pagesOf map; rx = entries rx; tx = entries tx; completion = entries done }) ⌝ }
 {
     if !queue_good(map, rx) {
         return false;

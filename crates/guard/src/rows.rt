@@ -5,7 +5,7 @@ ghost use mathlib.Core.Bool.{_&&_};
 ghost use Prim.Native.Nat.{_≤_};
 ghost use lib.Dec.{leb};
 ghost use lib.ListN.{length, drop};
-ghost use Rattle.rules.specs.WellFormed.{ascends, allBelow, noneOwned, pagesGood};
+ghost use Rattle.rules.specs.Tests.{ascends, allBelow, noneOwned, pagesGood};
 ghost use Rattle.lists.specs.Facts.{Decides};
 ghost use Rattle.store.specs.Views.{used, rowOf, pagesOf, SoundMap};
 ghost use Rattle.guard.specs.Tests.{blank, value};

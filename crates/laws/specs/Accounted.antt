@@ -13,12 +13,12 @@ use Rattle.rules.specs.Lists.{member, some?, owned, unless, freeBelow, firstEmp
 use Rattle.rules.specs.Chip.{Chip, size, pagesAt, free, allocated}
 use Rattle.rules.specs.WellFormed.{Above, Ascending, FormedAt}
 use Rattle.rules.specs.Step.{Input, stepOf}
-use Rattle.lists.specs.Facts.{if-not, or-true, member-cases, member-first, member-later, member-free}
-use Rattle.laws.specs.Count.{above-least}
+use Rattle.lists.specs.Facts.{if-not, or-true, member-cases, member-first, member-at, member-free}
+use Rattle.wellformed.specs.Count.{above-least}
 use Rattle.lists.specs.Owned.{owned-in}
-use Rattle.laws.specs.Pages.{first-empty}
-use Rattle.laws.specs.Pool.{number-free}
-use Rattle.laws.specs.Keeps.{Fits, keeps}
+use Rattle.wellformed.specs.Pages.{first-empty}
+use Rattle.wellformed.specs.Pool.{number-free}
+use Rattle.wellformed.specs.Keeps.{Fits, keeps}
 
 -- A page is in exactly one packet, at exactly one place of its list, and not listed as free.
 pub record InOne (c : Chip) (p : ℕ) : Type 0 where
@@ -34,11 +34,6 @@ pub record IsFree (c : Chip) (p : ℕ) : Type 0 where
   pub unowned : (k : ℕ) → member p (pagesAt c k) ≡ false
 
 -- Where a number of a list stands.
-pub member-at : (l : List ℕ) (i : ℕ) → i < length l → member (getD l i 0) l ≡ true
-member-at [] i h = absurd (omega arith)
-member-at (x ∷ xs) zero h = member-first x xs
-member-at (x ∷ xs) (suc i) h = member-later (getD xs i 0) x xs (member-at xs i (omega arith))
-
 stands : (p : ℕ) (l : List ℕ) → member p l ≡ true → (i : ℕ) × (i < length l) × (getD l i 0 ≡ p)
 unfolding member
 stands p [] m = absurd (true≢false (sym m))

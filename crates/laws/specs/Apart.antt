@@ -3,13 +3,13 @@
 use mathlib.Core.Path.{_≡_, refl, ap, _∙_}
 use mathlib.Core.Bool.{true}
 use mathlib.Core.List.{List, [], _∷_}
-use Prim.Native.Nat.{ℕ, zero, suc, _+_, _*_, _≤_, _<_, _/_}
+use Prim.Native.Nat.{ℕ, zero, suc, _+_, _*_, _≤_, _/_}
 use native.Mathlib.Omega.{arith}
 use lib.ListN.{length, getD, set}
 use lib.Seq.{getD-set-other, set-comm}
 use Rattle.rules.specs.Lists.{member}
 use Rattle.rules.specs.Packet.{place, getBytes, putBytes}
-use Rattle.lists.specs.Facts.{member-first, member-later}
+use Rattle.lists.specs.Facts.{member-at}
 
 -- w bytes from packet address a on lie within the pages
 abbrev pub Within : ℕ → ℕ → List ℕ → Type 0
@@ -22,11 +22,6 @@ Outside i pages = member (i / 256) pages ≡ true → ⊥
 -- no page in common
 abbrev pub Apart : List ℕ → List ℕ → Type 0
 Apart s t = (p : ℕ) → member p s ≡ true → member p t ≡ true → ⊥
-
-member-at : (l : List ℕ) (i : ℕ) → i < length l → member (getD l i 0) l ≡ true
-member-at [] i h = absurd (omega arith)
-member-at (x ∷ xs) zero h = member-first x xs
-member-at (x ∷ xs) (suc i) h = member-later _ x xs (member-at xs i (omega arith))
 
 -- A packet address lies in a page of the packet.
 place-inside : (pages : List ℕ) (a : ℕ) → Within a 1 pages → member (place pages a / 256) pages ≡ true

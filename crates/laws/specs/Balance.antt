@@ -3,13 +3,13 @@ use mathlib.Core.Path.{_≡_, refl, ap, ap₂, sym, _∙_}
 use mathlib.Core.List.{List, [], _∷_, map}
 use Prim.Native.Nat.{ℕ, zero, suc, _+_, _≤_, _<_}
 use native.Mathlib.Omega.{arith}
-use lib.ListN.{length, getD, set, replicate, List·getD-map}
+use lib.ListN.{length, getD, set, replicate, length-set, length-replicate, List·getD-map}
 use Rattle.rules.specs.Chip.{Chip, free, powered}
 use Rattle.rules.specs.Step.{Input, stepOf, runOf}
-use Rattle.laws.specs.Count.{total, free-and-total}
-use Rattle.laws.specs.Keeps.{Fits, keeps, powered-fits}
-use Rattle.laws.specs.Ledger.{Entry, grants, returns, restarts, leaves, entryOf, Ledger, blank, entered, ledgerFrom}
-use Rattle.laws.specs.Told.{Applies, told}
+use Rattle.wellformed.specs.Count.{total, free-and-total}
+use Rattle.wellformed.specs.Keeps.{Fits, keeps, powered-fits}
+use Rattle.laws.specs.Ledger.{Entry, grants, returns, restarts, entriesOf, Ledger, blank, entered, enteredAll, ledgerFrom}
+use Rattle.laws.specs.Told.{Applies, AllApply, told}
 
 -- One list replaced, and all emptied: how many pages there are, and how long each list is.
 total-set : (ls : List (List ℕ)) (k : ℕ) (l : List ℕ) → k < length ls → total (set ls k l) + length (getD ls k []) ≡ total ls + length l
@@ -37,21 +37,32 @@ pub record Balanced (ls : List (List ℕ)) (l : Ledger) : Type 0 where
   pub holds : map length ls ≡ l .holds
   pub even : l .granted ≡ total ls + l .back
 
--- Each entry keeps the balance.
-entry-balanced : (n : ℕ) (e : Entry) (a b : List (List ℕ)) (l : Ledger) → length a ≡ n → Applies n e a b → Balanced a l → Balanced b (entered e n l)
+-- Each entry keeps the balance and the number of lists, and so do entries one after another.
+entry-balanced : (n : ℕ) (e : Entry) (a b : List (List ℕ)) (l : Ledger) → length a ≡ n → Applies n e a b → Balanced a l → Balanced b (entered n e l) × (length b ≡ n)
 unfolding entered
-entry-balanced n (grants k m) a b l z p h = record {
-  holds = rw (p .4) (lengths-set a k (p .0) ∙ ap₂ (λ (x : List ℕ) (y : ℕ). set x k y) (h .holds) (p .3));
-  even = rw (p .4) (omega (arith, total-set a k (p .0) (omega (arith, p .1)), ap length (p .2), p .3, h .even));
-}
+entry-balanced n (grants k m) a b l z p h = (
+  record {
+    holds = rw (p .4) (lengths-set a k (p .0) ∙ ap₂ (λ (x : List ℕ) (y : ℕ). set x k y) (h .holds) (p .3));
+    even = rw (p .4) (omega (arith, total-set a k (p .0) (omega (arith, p .1)), ap length (p .2), p .3, h .even));
+  },
+  rw (p .4) (length-set a k (p .0) ∙ z),
+)
 entry-balanced n (returns k) a b l z p h =
-    let had : getD (l .holds) k 0 ≡ length (getD a k []) = ap (λ (x : List ℕ). getD x k 0) (sym (h .holds)) ∙ List·getD-map length a k [] in
-    record {
-      holds = rw (p .1) (lengths-set a k [] ∙ ap (λ (x : List ℕ). set x k 0) (h .holds));
-      even = rw (p .1) (omega (arith, total-set a k [] (omega (arith, p .0)), had, h .even));
-    }
-entry-balanced n restarts a b l z p h = record { holds = rw p (lengths-none n); even = rw p (omega (arith, total-none n)) }
-entry-balanced n leaves a b l z p h = record { holds = rw p (h .holds); even = rw p (h .even) }
+    let had : getD (l .holds) k 0 ≡ length (getD a k []) = ap (λ (x : List ℕ). getD x k 0) (sym (h .holds)) ∙ List·getD-map length a k [] in (
+      record {
+        holds = rw (p .1) (lengths-set a k [] ∙ ap (λ (x : List ℕ). set x k 0) (h .holds));
+        even = rw (p .1) (omega (arith, total-set a k [] (omega (arith, p .0)), had, h .even));
+      },
+      rw (p .1) (length-set a k [] ∙ z),
+    )
+entry-balanced n restarts a b l z p h = (record { holds = rw p (lengths-none n); even = rw p (omega (arith, total-none n)) }, rw p (length-replicate n []))
+
+entries-balanced : (n : ℕ) (es : List Entry) (a b : List (List ℕ)) (l : Ledger) → length a ≡ n → AllApply n es a b → Balanced a l → Balanced b (enteredAll n es l)
+unfolding enteredAll
+entries-balanced n [] a b l z p h = rw p h
+entries-balanced n (e ∷ es) a b l z p h =
+    let w = entry-balanced n e a (p .0) l z (p .1) h in
+    entries-balanced n es (p .0) b (entered n e l) (w .1) (p .2) (w .0)
 
 -- Over any list of inputs, from a chip and a ledger that balance.
 module _ (n : ℕ) (small : n ≤ 128) where
@@ -66,8 +77,8 @@ module _ (n : ℕ) (small : n ≤ 128) where
   run-balanced [] c out l w h = h
   run-balanced (i ∷ is) c out l w h =
       let t = stepOf n i c out in
-      run-balanced is (t .chip) (t .output) (entered (entryOf i c t) n l) (keeps n c w i out)
-      (entry-balanced n (entryOf i c t) (c .pool .pages) (t .chip .pool .pages) l (w .0 .count) (told n small c w i out) h)
+      run-balanced is (t .chip) (t .output) (enteredAll n (entriesOf i c t) l) (keeps n c w i out)
+      (entries-balanced n (entriesOf i c t) (c .pool .pages) (t .chip .pool .pages) l (w .0 .count) (told n small c w i out) h)
 
   -- For every history: free pages and pages granted are n and pages given back.
   pub balances : (inputs : List Input) (out : List ℕ)

@@ -6,11 +6,11 @@ use lib.ListN.{replicate, length}
 use Prim.Native.Nat.{_-_}
 use Rattle.rules.specs.Bits.{bit, flag, lowByte, highByte, wordOf}
 use Rattle.rules.specs.Lists.{member, some?, owned, unless, freeBelow, firstEmpty}
-use Rattle.rules.specs.WellFormed.{above, ascends, allBelow, apart, noneOwned, pagesGood, queueGood, queuesGood, numbersGood, formed, fit}
+use Rattle.rules.specs.Tests.{above, ascends, allBelow, apart, noneOwned, pagesGood, queueGood, queuesGood, numbersGood, formed, fit}
 use Rattle.rules.specs.Mmu.{decode, perform}
 use Rattle.rules.specs.Interrupts.{failed, eph, status}
-use Rattle.rules.specs.Registers.{registerAt, misplaced, partAt, taken, merged, headOf, lowOnly, readRegister, writeRegister, access}
-use Rattle.rules.specs.Step.{stepOn, stepOf}
+use Rattle.rules.specs.Registers.{registerAt, misplaced, lanesAt, taken, merged, headOf, lowOnly, readRegister, writeRegister, access}
+use Rattle.rules.specs.Step.{serve, stepOf}
 use Rattle.rules.specs.Bench.{eventOf, answer, decimalIn, hexDigit, hex4, line, printed, bench}
 
 -- a record of 8 bytes, "trailing zeros not shown"
@@ -30,7 +30,7 @@ pub worked :
     bench input
     ≡ says 1 0 0x3300 ++ says 2 0 0x1818 ++ says 3 0 0x0000 ++ says 4 0 0x0000 ++ says 5 0 0x0000
     ++ says 6 0 0x000c ++ says 7 0 0x0000 ++ says 8 5 0x0000 ++ says 9 1 0x0000 ++ says 10 0 0x8080
-unfolding bit flag lowByte highByte wordOf member some? owned unless freeBelow firstEmpty above ascends allBelow apart noneOwned pagesGood queueGood queuesGood numbersGood formed fit decode perform failed eph status registerAt misplaced partAt taken merged headOf lowOnly readRegister writeRegister access stepOn stepOf eventOf answer decimalIn hexDigit hex4 line printed
+unfolding bit flag lowByte highByte wordOf member some? owned unless freeBelow firstEmpty above ascends allBelow apart noneOwned pagesGood queueGood queuesGood numbersGood formed fit decode perform failed eph status registerAt misplaced lanesAt taken merged headOf lowOnly readRegister writeRegister access serve stepOf eventOf answer decimalIn hexDigit hex4 line printed
 worked = refl
 
 -- the characters of a line: "10 5 8c0f" and a newline

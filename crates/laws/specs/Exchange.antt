@@ -1,7 +1,7 @@
 -- A load and an arriving frame may change places: same chip, same answers. For any chip, well formed or not.
 use mathlib.Core.Path.{_≡_, ap, sym, _∙_}
 use Rattle.rules.specs.Chip.{Chip}
-use Rattle.rules.specs.Answers.{Step}
+use Rattle.rules.specs.Answers.{Effect}
 use Rattle.rules.specs.Registers.{Access, access}
 use Rattle.rules.specs.Receive.{Frame, arrive}
 use Rattle.laws.specs.Reception.{Reception, receive, reception, seen, frame-is, frame-reads, frame-writes}
@@ -24,8 +24,8 @@ exchange a f c clear l =
     frame-reads f (d .regs) (d .pool) ∙ (λ i. reception f (seen (w .registers i)) (w .pool i)) ∙ sym (frame-reads f (c .regs) (c .pool)) in
     record {
       chip =
-          ap (λ (s : Step). access a (s .chip) .chip) (frame-is f c) ∙ before .chip
-          ∙ ap (λ (y : Reception). receive y d) (sym same) ∙ sym (ap (λ (s : Step). s .chip) (frame-is f d));
-      accessReply = ap (λ (s : Step). access a (s .chip) .reply) (frame-is f c) ∙ before .reply;
-      frameReply = ap (λ (s : Step). s .reply) (frame-is f d) ∙ ap (λ (y : Reception). y .reply) same ∙ sym (ap (λ (s : Step). s .reply) (frame-is f c));
+          ap (λ (s : Effect). access a (s .chip) .chip) (frame-is f c) ∙ before .chip
+          ∙ ap (λ (y : Reception). receive y d) (sym same) ∙ sym (ap (λ (s : Effect). s .chip) (frame-is f d));
+      accessReply = ap (λ (s : Effect). access a (s .chip) .reply) (frame-is f c) ∙ before .reply;
+      frameReply = ap (λ (s : Effect). s .reply) (frame-is f d) ∙ ap (λ (y : Reception). y .reply) same ∙ sym (ap (λ (s : Effect). s .reply) (frame-is f c));
     }

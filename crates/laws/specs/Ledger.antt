@@ -14,15 +14,17 @@ use Rattle.rules.specs.Receive.{needed}
 use Rattle.rules.specs.Send.{good, autoRelease}
 use Rattle.rules.specs.Step.{Input, driver, frame, sent, stepOf}
 
--- what a step does to the ledger
+-- what happens to the ledger
 pub data Entry : Type 0 where
-  -- so many pages are granted to a packet number
+  -- a packet number is granted so many pages
   grants : ℕ → ℕ → Entry
   -- a packet number gives back what it had been granted
   returns : ℕ → Entry
   -- soft or MMU reset
   restarts : Entry
-  leaves : Entry
+
+abbrev pub just : Entry → List Entry
+just e = e ∷ []
 
 -- the last entry of a queue
 unfoldable pub lastOf : List ℕ → ℕ
@@ -30,49 +32,50 @@ lastOf [] = 0x80
 lastOf (k ∷ []) = k
 lastOf (k ∷ j ∷ ks) = lastOf (j ∷ ks)
 
--- a command that was done, by the chip before and after it: an allocation was granted where the result does not read 80h
-unfoldable pub commandEntry : Command → Chip → Chip → Entry
-commandEntry nothing c d = leaves
-commandEntry (allocate m) c d = cond (eqb (d .regs .result) 0x80) leaves (grants (d .regs .result) m)
-commandEntry reset c d = restarts
-commandEntry removeRx c d = leaves
-commandEntry removeAndRelease c d = returns (headOf (c .pool .rx))
-commandEntry release c d = returns (c .regs .packet)
-commandEntry enqueue c d = leaves
-commandEntry resetTx c d = leaves
-commandEntry unknown c d = leaves
+-- The entries of a step, in the order in which they happen; [] where it leaves the ledger.
+-- A command that was done, by the chip before and after it: an allocation was granted where the result does not read 80h.
+unfoldable pub commandEntries : Command → Chip → Chip → List Entry
+commandEntries nothing c d = []
+commandEntries (allocate m) c d = cond (eqb (d .regs .numbers .result) 0x80) [] (just (grants (d .regs .numbers .result) m))
+commandEntries reset c d = just restarts
+commandEntries removeRx c d = []
+commandEntries removeAndRelease c d = just (returns (headOf (c .pool .rx)))
+commandEntries release c d = just (returns (c .regs .numbers .packet))
+commandEntries enqueue c d = []
+commandEntries resetTx c d = []
+commandEntries unknown c d = []
 
--- a write that was done: a command, or a soft reset where RCR bit 15 is left set
-unfoldable pub writeEntry : Register → ℕ → Chip → Chip → Entry
-writeEntry COMMAND v c d = commandEntry (decode (lowByte v)) c d
-writeEntry RCR v c d = cond (bit 15 (d .regs .rcr)) restarts leaves
-writeEntry TCR v c d = leaves
-writeEntry EPHSR v c d = leaves
-writeEntry ECR v c d = leaves
-writeEntry MIR v c d = leaves
-writeEntry RESERVED v c d = leaves
-writeEntry (STATION k) v c d = leaves
-writeEntry CONTROL v c d = leaves
-writeEntry PACKET v c d = leaves
-writeEntry HEADS v c d = leaves
-writeEntry POINTER v c d = leaves
-writeEntry DATA v c d = leaves
-writeEntry INTERRUPT v c d = leaves
-writeEntry (TABLE k) v c d = leaves
-writeEntry BANK v c d = leaves
-writeEntry UNUSED v c d = leaves
-writeEntry ABSENT v c d = leaves
+-- A write that was done: a command, or a soft reset where RCR bit 15 is left set.
+unfoldable pub writeEntries : Register → ℕ → Chip → Chip → List Entry
+writeEntries COMMAND v c d = commandEntries (decode (lowByte v)) c d
+writeEntries RCR v c d = cond (bit 15 (d .regs .receiving .rcr)) (just restarts) []
+writeEntries TCR v c d = []
+writeEntries EPHSR v c d = []
+writeEntries ECR v c d = []
+writeEntries MIR v c d = []
+writeEntries RESERVED v c d = []
+writeEntries (STATION k) v c d = []
+writeEntries CONTROL v c d = []
+writeEntries PACKET v c d = []
+writeEntries HEADS v c d = []
+writeEntries POINTER v c d = []
+writeEntries DATA v c d = []
+writeEntries INTERRUPT v c d = []
+writeEntries (TABLE k) v c d = []
+writeEntries BANK v c d = []
+writeEntries UNUSED v c d = []
+writeEntries ABSENT v c d = []
 
--- an input that was done: a stored frame (value 0) has its pages by its length, under the number that is last in RX; a good send with auto release gives back those of the TX head
-unfoldable pub inputEntry : Input → Chip → ℕ → Chip → Entry
-inputEntry (driver (read w o)) c v d = leaves
-inputEntry (driver (write w o x)) c v d = writeEntry (registerAt (c .regs .bank) o) x c d
-inputEntry (frame f) c v d = cond (eqb v 0) (grants (lastOf (d .pool .rx)) (needed (c .regs) (length (f .bytes)))) leaves
-inputEntry (sent s) c v d = cond (autoRelease (good (c .regs .tcr) (s .outcome)) (c .regs)) (returns (headOf (c .pool .tx))) leaves
+-- An input that was done: a stored frame (value 0) has its pages by its length, under the number that is last in RX; a good send with auto release gives back those of the TX head.
+unfoldable pub inputEntries : Input → Chip → ℕ → Chip → List Entry
+inputEntries (driver (read w o)) c v d = []
+inputEntries (driver (write w o x)) c v d = writeEntries (registerAt (c .regs .numbers .bank) o) x c d
+inputEntries (frame f) c v d = cond (eqb v 0) (just (grants (lastOf (d .pool .rx)) (needed (c .regs) (length (f .bytes))))) []
+inputEntries (sent s) c v d = cond (autoRelease (good (c .regs .sending .tcr) (s .outcome)) (c .regs)) (just (returns (headOf (c .pool .tx)))) []
 
--- a refusal leaves the ledger
-unfoldable pub entryOf : Input → Chip → Turn → Entry
-entryOf i c t = cond (eqb (t .reply .number) 0) (inputEntry i c (t .reply .value) (t .chip)) leaves
+-- A refusal leaves the ledger.
+unfoldable pub entriesOf : Input → Chip → Turn → List Entry
+entriesOf i c t = cond (eqb (t .reply .number) 0) (inputEntries i c (t .reply .value) (t .chip)) []
 
 -- pages granted and given back, and what each packet number holds, remembered from its grant
 pub record Ledger : Type 0 where
@@ -84,13 +87,16 @@ pub record Ledger : Type 0 where
 abbrev pub blank : ℕ → Ledger
 blank n = record { granted = 0; back = 0; holds = replicate n 0 }
 
-unfoldable pub entered : Entry → ℕ → Ledger → Ledger
-entered (grants k m) n l = record { granted = l .granted + m; back = l .back; holds = set (l .holds) k m }
-entered (returns k) n l = record { granted = l .granted; back = l .back + getD (l .holds) k 0; holds = set (l .holds) k 0 }
-entered restarts n l = blank n
-entered leaves n l = l
+unfoldable pub entered : ℕ → Entry → Ledger → Ledger
+entered n (grants k m) l = record { granted = l .granted + m; back = l .back; holds = set (l .holds) k m }
+entered n (returns k) l = record { granted = l .granted; back = l .back + getD (l .holds) k 0; holds = set (l .holds) k 0 }
+entered n restarts l = blank n
+
+unfoldable pub enteredAll : ℕ → List Entry → Ledger → Ledger
+enteredAll n [] l = l
+enteredAll n (e ∷ es) l = enteredAll n es (entered n e l)
 
 -- the ledger after inputs that are run one after another from a chip
 unfoldable pub ledgerFrom : ℕ → List Input → Chip → List ℕ → Ledger → Ledger
 ledgerFrom n [] c out l = l
-ledgerFrom n (i ∷ is) c out l = let t = stepOf n i c out in ledgerFrom n is (t .chip) (t .output) (entered (entryOf i c t) n l)
+ledgerFrom n (i ∷ is) c out l = let t = stepOf n i c out in ledgerFrom n is (t .chip) (t .output) (enteredAll n (entriesOf i c t) l)

@@ -1,16 +1,10 @@
--- What follows from the rules. The modules tell the story in this order.
+-- The client's demands, and what leads to them. The modules tell the story in this order. No code rests on this crate.
 -- What the rules compute: the worked example, the table of document 01, the hash examples of the data sheet.
 pub mod Example
 pub mod Numbers
--- A refusal changes nothing; refusal 16 is given exactly where a chip is not well formed.
-pub mod Cases
+-- Demand 1: a refusal changes nothing.
 pub mod Refusals
-pub mod Fit
--- Demand 2: every step keeps a chip well formed, each page is free or in one packet, and the free count is accounted for.
-pub mod Count
-pub mod Pages
-pub mod Pool
-pub mod Keeps
+-- Demand 2: each page is free or in one packet, and the free count is accounted for. (`wellformed` has that each step keeps a chip well formed.)
 pub mod Accounted
 pub mod Ledger
 pub mod Told

@@ -23,7 +23,7 @@ module _ (start other : Chip) (same : (k : ℕ) → allocated k start ≡ true �
   load-from now a (toBank e) = toBank e
   load-from now a (toPacket e) = toPacket e
   load-from now a (toPointer e) = toPointer e
-  load-from now a (toData e k) = toData e (same (now .regs .packet) k)
+  load-from now a (toData e k) = toData e (same (now .regs .numbers .packet) k)
 
   loads-from : (loads : List Access) (now : Chip) → Loads start now loads → Loads other now loads
   loads-from [] now l = l

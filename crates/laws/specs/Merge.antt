@@ -7,10 +7,11 @@ use native.Mathlib.Omega.{arith}
 use lib.ListN.{length, getD, drop}
 use Rattle.rules.specs.Chip.{Chip}
 use Rattle.rules.specs.Answers.{Reply, Turn}
-use Rattle.rules.specs.WellFormed.{FormedAt, fit}
+use Rattle.rules.specs.WellFormed.{FormedAt}
+use Rattle.rules.specs.Tests.{fit}
 use Rattle.rules.specs.Registers.{Access, access}
 use Rattle.rules.specs.Receive.{Frame, arrive}
-use Rattle.rules.specs.Step.{Input, driver, frame, stepOn, stepOf, behind, runOf}
+use Rattle.rules.specs.Step.{Input, driver, frame, serve, stepOf, behind, runOf}
 use Rattle.laws.specs.Exchange.{Exchanged, exchange}
 use Rattle.laws.specs.Loads.{Loads, loads-after-load, loads-after-frame}
 
@@ -47,26 +48,26 @@ module _ (n : ℕ)
       run : Loads c c loads
 
     module _ (out : List ℕ) where
-      stepped : (i : Input) (c : Chip) (loads : List Access) → Ready c loads → stepOf n i c out ≡ stepOn i c out
+      stepped : (i : Input) (c : Chip) (loads : List Access) → Ready c loads → stepOf n i c out ≡ serve i c out
       unfolding stepOf
       stepped i c loads r = rw (fits c (r .formed) (r .full))
 
       runs : (i : Input) (is : List Input) (c : Chip) (loads : List Access) → Ready c loads
-          → runOf n (i ∷ is) c out ≡ behind (stepOn i c out .reply) (runOf n is (stepOn i c out .chip) (stepOn i c out .output))
+          → runOf n (i ∷ is) c out ≡ behind (serve i c out .reply) (runOf n is (serve i c out .chip) (serve i c out .output))
       unfolding runOf
       runs i is c loads r = ap (λ (t : Turn). behind (t .reply) (runOf n is (t .chip) (t .output))) (stepped i c loads r)
 
-      ready-after : (i : Input) (c : Chip) (loads rest : List Access) → Ready c loads → Loads (stepOn i c out .chip) (stepOn i c out .chip) rest → Ready (stepOn i c out .chip) rest
+      ready-after : (i : Input) (c : Chip) (loads rest : List Access) → Ready c loads → Loads (serve i c out .chip) (serve i c out .chip) rest → Ready (serve i c out .chip) rest
       ready-after i c loads rest r l =
           let k = subst (λ (t : Turn). FormedAt n (t .chip) × (length (t .chip .memory) ≡ 256 * n)) (stepped i c loads r) (keeps i c out (r .formed) (r .full)) in
           record { formed = k .0; full = k .1; run = l }
 
       after-load : (a : Access) (rest : List Access) (c : Chip) → Ready c (a ∷ rest) → Ready (access a c .chip) rest
-      unfolding stepOn
+      unfolding serve
       after-load a rest c r = ready-after (driver a) c (a ∷ rest) rest r (loads-after-load a rest c (r .run))
 
       after-frame : (f : Frame) (loads : List Access) (c : Chip) → Ready c loads → Ready (arrive f c .chip) loads
-      unfolding stepOn
+      unfolding serve
       after-frame f loads c r = ready-after (frame f) c loads loads r (loads-after-frame f loads c (r .run))
 
       exchanged : (a : Access) (rest : List Access) (f : Frame) (c : Chip) → Ready c (a ∷ rest) → Exchanged a f c
@@ -78,7 +79,7 @@ module _ (n : ℕ)
 
       -- Loads are answered after a frame as before it.
       loads-answered : (f : Frame) (loads : List Access) (c : Chip) → Ready c loads → runOf n (map driver loads) (arrive f c .chip) out .replies ≡ runOf n (map driver loads) c out .replies
-      unfolding stepOn
+      unfolding serve
       loads-answered f [] c r = none-answered (arrive f c .chip) ∙ sym (none-answered c)
       loads-answered f (a ∷ rest) c r =
           let e = exchanged a rest f c r in
@@ -89,7 +90,7 @@ module _ (n : ℕ)
       -- Frames are answered after a load as before it.
       frames-answered : (a : Access) (rest : List Access) (frames : List Frame) (c : Chip) → Ready c (a ∷ rest)
           → runOf n (map frame frames) (access a c .chip) out .replies ≡ runOf n (map frame frames) c out .replies
-      unfolding stepOn
+      unfolding serve
       frames-answered a rest [] c r = none-answered (access a c .chip) ∙ sym (none-answered c)
       frames-answered a rest (f ∷ fs) c r =
           let e = exchanged a rest f c r in
@@ -100,7 +101,7 @@ module _ (n : ℕ)
       -- A frame before the loads may come after them.
       frame-passes : (f : Frame) (is : List Input) (loads : List Access) (c : Chip) → Ready c loads
           → runOf n (map driver loads ++ is) (arrive f c .chip) out .chip ≡ runOf n (map driver loads ++ (frame f ∷ is)) c out .chip
-      unfolding stepOn
+      unfolding serve
       frame-passes f is [] c r = rw (runs (frame f) is c [] r)
       frame-passes f is (a ∷ rest) c r =
           let e = exchanged a rest f c r in
@@ -113,7 +114,7 @@ module _ (n : ℕ)
       -- By the merge: a load that comes first, a frame that comes first.
       merged : {xs ys zs : List Input} (m : Merge xs ys zs) (loads : List Access) (frames : List Frame) → xs ≡ map driver loads → ys ≡ map frame frames
           → (c : Chip) → Ready c loads → Merged n c out loads frames m
-      unfolding weave stepOn
+      unfolding weave serve
       merged none [] [] e d c r = record { replies = none-answered c; chip = refl }
       merged none [] (f ∷ fs) e d c r = cons-none (sym d)
       merged none (a ∷ rest) frames e d c r = cons-none (sym e)

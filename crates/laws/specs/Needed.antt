@@ -9,13 +9,13 @@ use Rattle.rules.specs.Lists.{member, some?, owned, unless, freeBelow, firstEmp
 use Rattle.rules.specs.Chip.{Chip, powerUp}
 use Rattle.rules.specs.Fields.{setRcr, setPointer, setBank, setPages, inRegisters, inPool}
 use Rattle.rules.specs.Answers.{Reply, done, refusal}
-use Rattle.rules.specs.WellFormed.{above, ascends, allBelow, apart, noneOwned, pagesGood, queueGood, queuesGood, numbersGood, formed, fit}
+use Rattle.rules.specs.Tests.{above, ascends, allBelow, apart, noneOwned, pagesGood, queueGood, queuesGood, numbersGood, formed, fit}
 use Rattle.rules.specs.Packet.{place, getBytes, putBytes}
 use Rattle.rules.specs.Crc.{crcBit, crcBits, crcFrom, crc, hash}
 use Rattle.rules.specs.Receive.{Frame, sameBytes, broadcast, group, inTable, accepted, dataLength, countOf, pagesFor, needed, valueFor, dropped, judge, groupBits, frameStatus, trailer, image, after, arrive}
 use Rattle.rules.specs.Data.{address, advance, next, ifPacket, against, oddFixed, past, ifOpen, valueOf, readData, writeData}
-use Rattle.rules.specs.Registers.{Access, read, write, byte, word, registerAt, misplaced, partAt, taken, merged, width, bytesOf, headOf, lowOnly, readRegister, writeRegister, access}
-use Rattle.rules.specs.Step.{Input, driver, frame, stepOn, stepOf, runOf, run}
+use Rattle.rules.specs.Registers.{Access, read, write, byte, word, registerAt, misplaced, lanesAt, taken, merged, width, bytesOf, headOf, lowOnly, readRegister, writeRegister, access}
+use Rattle.rules.specs.Step.{Input, driver, frame, serve, stepOf, runOf, run}
 use Rattle.laws.specs.Loading.{toBank, toPacket, toPointer, toData}
 use Rattle.laws.specs.Loads.{Loads}
 
@@ -29,7 +29,7 @@ arriving = record { bytes = replicate 64 0xff; badCrc = false; alignment = false
 
 -- the answers of a run on that chip
 unfoldable pub answers : ℕ → List Input → List Reply
-unfolding bit setBit clearBit flag lowByte highByte wordOf member some? owned unless freeBelow firstEmpty above ascends allBelow apart noneOwned pagesGood queueGood queuesGood numbersGood formed fit place getBytes putBytes crcBit crcBits crcFrom crc hash sameBytes broadcast group inTable accepted dataLength countOf pagesFor needed valueFor dropped judge groupBits frameStatus trailer image after arrive address advance next ifPacket against oddFixed past ifOpen valueOf readData registerAt misplaced partAt taken width headOf readRegister access stepOn stepOf runOf
+unfolding bit setBit clearBit flag lowByte highByte wordOf member some? owned unless freeBelow firstEmpty above ascends allBelow apart noneOwned pagesGood queueGood queuesGood numbersGood formed fit place getBytes putBytes crcBit crcBits crcFrom crc hash sameBytes broadcast group inTable accepted dataLength countOf pagesFor needed valueFor dropped judge groupBits frameStatus trailer image after arrive address advance next ifPacket against oddFixed past ifOpen valueOf readData registerAt misplaced lanesAt taken width headOf readRegister access serve stepOf runOf
 answers p inputs = run inputs (listening p) [] .replies
 
 -- x answers the access where it comes before the frame, y where it comes after; the frame is stored and answered by 0 both times

@@ -9,7 +9,7 @@ use Rattle.rules.specs.Bits.{bit}
 use Rattle.rules.specs.Crc.{crcBit, crcBits, crcFrom, crc, hash}
 use Rattle.rules.specs.Data.{autoIncr, address, advance, next}
 use Rattle.rules.specs.Receive.{inTable, countOf, pagesFor}
-use Rattle.rules.specs.Registers.{Width, byte, word, partAt, width}
+use Rattle.rules.specs.Registers.{Width, byte, word, lanesAt, width}
 
 pub data Row : Type 0 where
   -- n, to the count and the pages
@@ -24,7 +24,7 @@ pointerAt a = 2 ^ 14 + a
 -- the row with what the rules make of its n, and of its width and first address
 abbrev pub byRules : Row → Row
 byRules (stored n count pages) = stored n (countOf n) (pagesFor (countOf n))
-byRules (grows w from to) = grows w from (address (next (width (partAt w 8)) (pointerAt from)))
+byRules (grows w from to) = grows w from (address (next (width (lanesAt w 8)) (pointerAt from)))
 
 abbrev pub rows : List Row
 rows =
@@ -41,7 +41,7 @@ rows =
     ∷ []
 
 pub either-side : map byRules rows ≡ rows
-unfolding bit countOf pagesFor partAt width address advance next
+unfolding bit countOf pagesFor lanesAt width address advance next
 either-side = refl
 
 -- The same at every pointer with AUTO INCR set, whatever its other bits are.

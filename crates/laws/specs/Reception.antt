@@ -10,15 +10,15 @@ use lib.ListN.{length, getD, take, length-append, length-take}
 use lib.Seq.{getD-set-other}
 use Rattle.rules.specs.Bits.{bit}
 use Rattle.rules.specs.Lists.{member, some?, owned, firstEmpty}
-use Rattle.rules.specs.Chip.{Registers, Pool, Chip, free}
-use Rattle.rules.specs.Fields.{setRcr, setOverrun}
-use Rattle.rules.specs.Answers.{Reply, Step, gives, refusal, refuse}
+use Rattle.rules.specs.Chip.{Registers, Pool, Chip, free, resetRegisters}
+use Rattle.rules.specs.Fields.{setRcr, setOverrun, setControl, inReceiving}
+use Rattle.rules.specs.Answers.{Reply, Effect, doneWith, refusal, refuse}
 use Rattle.rules.specs.Packet.{putBytes}
 use Rattle.rules.specs.Receive.{Frame, Arrival, stored, disabled, notAccepted, tooLong, bad, noRoom, valueFor, accepted, dropped, dataLength, countOf, pagesFor, needed, destination, judge, trailer, image, stow, abort, after, arrive}
 use Rattle.lists.specs.Facts.{member-take, member-free}
 use Rattle.laws.specs.Apart.{Within}
-use Rattle.laws.specs.Cases.{pick-by}
-use Rattle.laws.specs.Pages.{first-empty}
+use Rattle.wellformed.specs.Cases.{pick-by}
+use Rattle.wellformed.specs.Pages.{first-empty}
 
 -- what a frame does: it writes RCR, a latch, the pool, and bytes of memory
 pub record Reception : Type 0 where
@@ -36,7 +36,7 @@ pub record Reception : Type 0 where
 -- a chip on which it is done
 abbrev pub receive : Reception → Chip → Chip
 receive x c = record {
-  regs = setRcr (x .rcr) (setOverrun (x .overrun || c .regs .overrun) (c .regs));
+  regs = setRcr (x .rcr) (setOverrun (x .overrun || c .regs .receiving .overrun) (c .regs));
   pool = x .pool;
   memory = putBytes (x .image) 0 (x .pages) (c .memory);
 }
@@ -55,24 +55,24 @@ value v = record { number = 0; value = v }
 unfoldable pub judged : Arrival → Frame → Registers → Pool → Reception
 judged stored f r q = record {
   reply = value (valueFor stored);
-  rcr = r .rcr;
+  rcr = r .receiving .rcr;
   overrun = false;
   pool = stow f (bare r q) .pool;
   image = image f (dataLength r (length (f .bytes)));
   pages = take (needed r (length (f .bytes))) (free (bare r q));
 }
-judged disabled f r q = nothingStored (value (valueFor disabled)) (r .rcr) false q
-judged notAccepted f r q = nothingStored (value (valueFor notAccepted)) (r .rcr) false q
-judged tooLong f r q = nothingStored (value (valueFor tooLong)) (abort r .rcr) false q
-judged bad f r q = nothingStored (value (valueFor bad)) (r .rcr) false q
-judged noRoom f r q = nothingStored (value (valueFor noRoom)) (abort r .rcr) true q
+judged disabled f r q = nothingStored (value (valueFor disabled)) (r .receiving .rcr) false q
+judged notAccepted f r q = nothingStored (value (valueFor notAccepted)) (r .receiving .rcr) false q
+judged tooLong f r q = nothingStored (value (valueFor tooLong)) (abort r .receiving .rcr) false q
+judged bad f r q = nothingStored (value (valueFor bad)) (r .receiving .rcr) false q
+judged noRoom f r q = nothingStored (value (valueFor noRoom)) (abort r .receiving .rcr) true q
 
 -- from registers and pool alone: a frame reads no byte of memory
 unfoldable pub reception : Frame → Registers → Pool → Reception
-reception f r q = cond (ltb (length (f .bytes)) 18) (nothingStored (refusal 11) (r .rcr) false q) (judged (judge r (length (free (bare r q))) f) f r q)
+reception f r q = cond (ltb (length (f .bytes)) 18) (nothingStored (refusal 11) (r .receiving .rcr) false q) (judged (judge r (length (free (bare r q))) f) f r q)
 
 -- a step that is a reception
-abbrev pub Received : Step → Reception → Chip → Type 0
+abbrev pub Received : Effect → Reception → Chip → Type 0
 Received s x c = s ≡ record { reply = x .reply; chip = receive x c }
 
 -- An arrival is its reception, and writes nothing else.
@@ -80,7 +80,7 @@ pub frame-is : (f : Frame) (c : Chip) → Received (arrive f c) (reception f (c 
 unfolding arrive after reception judged putBytes
 frame-is f c = early (ltb (length (f .bytes)) 18) _ (judged (judge (c .regs) (length (free c)) f) f (c .regs) (c .pool)) (late (judge (c .regs) (length (free c)) f))
   where
-    late : (v : Arrival) → Received (gives (valueFor v) (after v f c)) (judged v f (c .regs) (c .pool)) c
+    late : (v : Arrival) → Received (doneWith (valueFor v) (after v f c)) (judged v f (c .regs) (c .pool)) c
     late stored = refl
     late disabled = refl
     late notAccepted = refl
@@ -88,18 +88,18 @@ frame-is f c = early (ltb (length (f .bytes)) 18) _ (judged (judge (c .regs) (le
     late bad = refl
     late noRoom = refl
 
-    early : (b : Bool) (s : Step) (x : Reception) → Received s x c → Received (cond b (refuse 11 c) s) (cond b (nothingStored (refusal 11) (c .regs .rcr) false (c .pool)) x) c
+    early : (b : Bool) (s : Effect) (x : Reception) → Received s x c → Received (cond b (refuse 11 c) s) (cond b (nothingStored (refusal 11) (c .regs .receiving .rcr) false (c .pool)) x) c
     early true s x e = refl
     early false s x e = e
 
--- what a frame reads of the registers
+-- what a frame reads of the registers, and all else as after a reset
 abbrev pub seen : Registers → Registers
-seen r = record { tcr = 0; ephsr = 0; rcr = r .rcr; ecr = 0; reserved = r .reserved; station = r .station; control = r .control; packet = 0; result = 0; pointer = 0; mask = 0; table = r .table; bank = 0; txEmpty = false; overrun = false }
+seen r = setOverrun false (setControl (r .control) (inReceiving (λ x. r .receiving) (resetRegisters [])))
 
 -- A frame reads RCR, the reserved pages, the station address, control and the table, and the pool.
 pub frame-reads : (f : Frame) (r : Registers) (q : Pool) → reception f r q ≡ reception f (seen r) q
 unfolding reception judged judge accepted dropped needed dataLength
-frame-reads f r q = ap (cond (ltb (length (f .bytes)) 18) (nothingStored (refusal 11) (r .rcr) false q)) (late (judge r (length (free (bare r q))) f))
+frame-reads f r q = ap (cond (ltb (length (f .bytes)) 18) (nothingStored (refusal 11) (r .receiving .rcr) false q)) (late (judge r (length (free (bare r q))) f))
   where
     late : (v : Arrival) → judged v f r q ≡ judged v f (seen r) q
     late stored = refl
@@ -114,7 +114,7 @@ pub record Spares (q : Pool) (x : Reception) : Type 0 where
   -- of the page lists only that of the lowest unallocated number, of the queues only RX
   pub others : (k : ℕ) → (k ≡ firstEmpty (q .pages) → ⊥) → getD (x .pool .pages) k [] ≡ getD (q .pages) k []
   pub tx : x .pool .tx ≡ q .tx
-  pub done : x .pool .done ≡ q .done
+  pub completion : x .pool .completion ≡ q .completion
   -- the bytes go into pages that were free: no packet had them
   pub fresh : (p : ℕ) → member p (x .pages) ≡ true → owned p (q .pages) ≡ false
   -- which hold them all
@@ -143,14 +143,14 @@ module _ (f : Frame) (r : Registers) (q : Pool) where
 
   nothing-taken : (x : Reply) (y : ℕ) (b : Bool) → Spares q (nothingStored x y b q)
   unfolding member
-  nothing-taken x y b = record { others = λ k h. refl; tx = refl; done = refl; fresh = λ p m. absurd (true≢false (sym m)); fits = omega arith }
+  nothing-taken x y b = record { others = λ k h. refl; tx = refl; completion = refl; fresh = λ p m. absurd (true≢false (sym m)); fits = omega arith }
 
   some-taken : needed r len ≤ freePages → Spares q (judged stored f r q)
   unfolding judged needed
   some-taken h = record {
     others = λ k h. getD-set-other (q .pages) (firstEmpty (q .pages)) k _ [] h;
     tx = refl;
-    done = refl;
+    completion = refl;
     fresh = λ p m. member-free (length (q .pages)) (q .pages) p (member-take p (needed r len) (free (bare r q)) m) .1;
     fits = rw length-take (omega (arith, h, image-fits f (dataLength r len)));
   }
@@ -163,12 +163,12 @@ module _ (f : Frame) (r : Registers) (q : Pool) where
       P : Arrival → Type 0
       P v = Spares q (judged v f r q)
 
-      early : (b : Bool) → Spares q (cond b (nothingStored (refusal 11) (r .rcr) false q) (judged (judge r freePages f) f r q))
+      early : (b : Bool) → Spares q (cond b (nothingStored (refusal 11) (r .receiving .rcr) false q) (judged (judge r freePages f) f r q))
       early true = nothing-taken _ _ _
       early false =
-          pick-by P (not (bit 8 (r .rcr))) (λ e. nothing-taken _ _ _)
+          pick-by P (not (bit 8 (r .receiving .rcr))) (λ e. nothing-taken _ _ _)
           (λ e. pick-by P (not (accepted r (destination f))) (λ e. nothing-taken _ _ _)
           (λ e. pick-by P (ltb 1532 len) (λ e. nothing-taken _ _ _)
           (λ e. pick-by P (dropped r f) (λ e. nothing-taken _ _ _)
-          (λ e. pick-by P (ltb freePages (needed r len + r .reserved)) (λ e. nothing-taken _ _ _)
-          (λ e. some-taken (omega (arith, ltb-false freePages (needed r len + r .reserved) e)))))))
+          (λ e. pick-by P (ltb freePages (needed r len + r .receiving .reserved)) (λ e. nothing-taken _ _ _)
+          (λ e. some-taken (omega (arith, ltb-false freePages (needed r len + r .receiving .reserved) e)))))))

@@ -1,42 +1,41 @@
 -- "A refusal returns value 0 and changes nothing": of every input, on every chip, well formed or not, and with every output buffer.
 use mathlib.Core.Path.{_≡_, refl, ap}
-use mathlib.Core.Bool.{true, false, not, _&&_}
-use mathlib.Core.List.{List, [], _∷_}
+use mathlib.Core.Bool.{true, false}
+use mathlib.Core.List.{List}
 use Prim.Native.Nat.{ℕ, suc}
 use lib.Dec.{leb, ltb}
 use lib.ListN.{length}
-use Rattle.rules.specs.Bits.{bit, lowByte}
-use Rattle.rules.specs.Chip.{Chip, size, pagesAt, free}
-use Rattle.rules.specs.Answers.{Step, Turn, refuse, refused, leaving}
-use Rattle.rules.specs.WellFormed.{fit}
+use Rattle.rules.specs.Bits.{lowByte}
+use Rattle.rules.specs.Chip.{Chip, free}
+use Rattle.rules.specs.Answers.{Effect, Turn, refuse, refused, leaving}
 use Rattle.rules.specs.Mmu.{Command, nothing, allocate, reset, removeRx, removeAndRelease, release, enqueue, resetTx, unknown, decode, perform}
 use Rattle.rules.specs.Data.{readData, writeData}
-use Rattle.rules.specs.Registers.{Part, Register, TCR, EPHSR, RCR, ECR, MIR, RESERVED, STATION, CONTROL, COMMAND, PACKET, HEADS, POINTER, DATA, INTERRUPT, TABLE, BANK, UNUSED, ABSENT, width, bytesOf, readRegister, writeRegister, Access, read, write, misplaced, registerAt, partAt, access}
+use Rattle.rules.specs.Registers.{Lanes, Register, TCR, EPHSR, RCR, ECR, MIR, RESERVED, STATION, CONTROL, COMMAND, PACKET, HEADS, POINTER, DATA, INTERRUPT, TABLE, BANK, UNUSED, ABSENT, width, bytesOf, readRegister, writeRegister, Access, read, write, misplaced, registerAt, lanesAt, access}
 use Rattle.rules.specs.Receive.{Frame, arrive}
-use Rattle.rules.specs.Send.{Send, within, usable, byteCount, good, autoRelease, finish, ifSendable, byTxHead, sendDone}
-use Rattle.rules.specs.Step.{Input, driver, frame, sent, stepOn, stepOf}
-use Rattle.laws.specs.Cases.{pick, by-head, by-idle, by-packet, by-tests, by-part}
+use Rattle.rules.specs.Send.{Send, sendHead, finish}
+use Rattle.rules.specs.Step.{Input, driver, frame, sent, serve, stepOf}
+use Rattle.wellformed.specs.Cases.{pick, by-head, by-idle, by-packet, by-tests, by-lanes, by-read, by-send, by-step}
 
 -- A result that answers 0, or is the refusal of its number.
 data Honest {A : Type 0} (number : A → ℕ) (refusing : ℕ → A) : A → Type 0 where
   answers : {a : A} → number a ≡ 0 → Honest number refusing a
   refuses : (k : ℕ) → Honest number refusing (refusing k)
 
-abbrev HonestStep : Chip → Step → Type 0
-HonestStep c = Honest (λ s. s .reply .number) (λ k. refuse k c)
+abbrev HonestEffect : Chip → Effect → Type 0
+HonestEffect c = Honest (λ s. s .reply .number) (λ k. refuse k c)
 
 abbrev HonestTurn : Chip → List ℕ → Turn → Type 0
 HonestTurn c out = Honest (λ t. t .reply .number) (λ k. refused k c out)
 
 -- Each rule that refuses, on any chip: the commands, the data accesses, the registers, accesses and frames.
 module _ (c : Chip) where
-  abbrev Fair : Step → Type 0
-  Fair = HonestStep c
+  abbrev Fair : Effect → Type 0
+  Fair = HonestEffect c
 
   no : (k : ℕ) → Fair (refuse (suc k) c)
   no k = refuses (suc k)
 
-  performs : (k : Command) → HonestStep c (perform k c)
+  performs : (k : Command) → HonestEffect c (perform k c)
   unfolding perform
   performs nothing = answers refl
   performs (allocate n) = pick Fair (leb n (length (free c))) (answers refl) (answers refl)
@@ -48,98 +47,66 @@ module _ (c : Chip) where
   performs resetTx = answers refl
   performs unknown = refuses 4
 
-  reads-data : (width : ℕ) → HonestStep c (readData width c)
+  reads-data : (width : ℕ) → HonestEffect c (readData width c)
   unfolding readData
   reads-data width = by-packet c Fair no _ (λ pages. by-tests c Fair no true width pages _ (answers refl))
 
-  writes-data : (bytes : List ℕ) → HonestStep c (writeData bytes c)
+  writes-data : (bytes : List ℕ) → HonestEffect c (writeData bytes c)
   unfolding writeData
   writes-data bytes = by-packet c Fair no _ (λ pages. by-tests c Fair no false (length bytes) pages _ (answers refl))
 
-  reads : (r : Register) (p : Part) → HonestStep c (readRegister r p c)
-  unfolding readRegister
-  reads TCR p = answers refl
-  reads EPHSR p = answers refl
-  reads RCR p = answers refl
-  reads ECR p = answers refl
-  reads MIR p = answers refl
-  reads RESERVED p = answers refl
-  reads (STATION k) p = answers refl
-  reads CONTROL p = answers refl
-  reads COMMAND p = answers refl
-  reads PACKET p = answers refl
-  reads HEADS p = answers refl
-  reads POINTER p = answers refl
-  reads DATA p = reads-data (width p)
-  reads INTERRUPT p = answers refl
-  reads (TABLE k) p = answers refl
-  reads BANK p = answers refl
-  reads UNUSED p = answers refl
-  reads ABSENT p = refuses 2
+  reads : (r : Register) (p : Lanes) → HonestEffect c (readRegister r p c)
+  reads = by-read c Fair no (λ v. answers refl) (λ v. answers refl) reads-data
 
-  writes : (r : Register) (p : Part) (v : ℕ) → HonestStep c (writeRegister r p v c)
+  writes : (r : Register) (p : Lanes) (v : ℕ) → HonestEffect c (writeRegister r p v c)
   unfolding writeRegister
   writes TCR p v = answers refl
   writes EPHSR p v = refuses 3
   writes RCR p v = answers refl
   writes ECR p v = refuses 3
   writes MIR p v = refuses 3
-  writes RESERVED p v = by-part c Fair no p _ (answers refl)
+  writes RESERVED p v = by-lanes c Fair no p _ (answers refl)
   writes (STATION k) p v = answers refl
   writes CONTROL p v = answers refl
-  writes COMMAND p v = by-part c Fair no p _ (performs (decode (lowByte v)))
-  writes PACKET p v = by-part c Fair no p _ (answers refl)
+  writes COMMAND p v = by-lanes c Fair no p _ (performs (decode (lowByte v)))
+  writes PACKET p v = by-lanes c Fair no p _ (answers refl)
   writes HEADS p v = refuses 3
   writes POINTER p v = answers refl
   writes DATA p v = writes-data (bytesOf p v)
   writes INTERRUPT p v = answers refl
   writes (TABLE k) p v = answers refl
-  writes BANK p v = by-part c Fair no p _ (answers refl)
+  writes BANK p v = by-lanes c Fair no p _ (answers refl)
   writes UNUSED p v = answers refl
   writes ABSENT p v = refuses 2
 
-  accesses : (a : Access) → HonestStep c (access a c)
+  accesses : (a : Access) → HonestEffect c (access a c)
   unfolding access
-  accesses (read w offset) = pick Fair (misplaced w offset) (refuses 1) (reads (registerAt (c .regs .bank) offset) (partAt w offset))
-  accesses (write w offset v) = pick Fair (misplaced w offset) (refuses 1) (writes (registerAt (c .regs .bank) offset) (partAt w offset) v)
+  accesses (read w offset) = pick Fair (misplaced w offset) (refuses 1) (reads (registerAt (c .regs .numbers .bank) offset) (lanesAt w offset))
+  accesses (write w offset v) = pick Fair (misplaced w offset) (refuses 1) (writes (registerAt (c .regs .numbers .bank) offset) (lanesAt w offset) v)
 
-  arrives : (f : Frame) → HonestStep c (arrive f c)
+  arrives : (f : Frame) → HonestEffect c (arrive f c)
   unfolding arrive
   arrives f = pick Fair (ltb (length (f .bytes)) 18) (refuses 11) (answers refl)
 
   -- The same beside an output buffer: sends, and any input.
   module _ (out : List ℕ) where
-    -- a step that leaves the output buffer
-    leaves : {s : Step} → HonestStep c s → HonestTurn c out (leaving out s)
+    -- an effect that leaves the output buffer
+    leaves : {s : Effect} → HonestEffect c s → HonestTurn c out (leaving out s)
     leaves (answers e) = answers e
     leaves (refuses k) = refuses k
 
-    at-sendable : (s : Send) (k : ℕ) (rest : List ℕ) → HonestTurn c out (ifSendable s k rest c out)
-    unfolding ifSendable finish
-    at-sendable s k rest =
-        pick (HonestTurn c out) (usable (byteCount (pagesAt c k) (c .memory)) (length (pagesAt c k)))
-        (pick (HonestTurn c out) (not (autoRelease (good (c .regs .tcr) (s .outcome)) (c .regs)) && leb (size c) (length (c .pool .done))) (refuses 14) (answers refl))
-        (refuses 13)
+    sends : (s : Send) → HonestTurn c out (finish s c out)
+    unfolding sendHead
+    sends s = by-send c out (HonestTurn c out) (λ k. refuses (suc k)) s (λ k rest e f. answers refl)
 
-    at-tx-head : (s : Send) (l : List ℕ) → HonestTurn c out (byTxHead s l c out)
-    at-tx-head s [] = refuses 12
-    at-tx-head s (k ∷ ks) = at-sendable s k ks
-
-    sends : (s : Send) → HonestTurn c out (sendDone s c out)
-    unfolding sendDone
-    sends s =
-        pick (HonestTurn c out) (ltb (length out) 2048) (refuses 15)
-        (pick (HonestTurn c out) (within s) (pick (HonestTurn c out) (bit 0 (c .regs .tcr)) (at-tx-head s (c .pool .tx)) (refuses 12)) (refuses 11))
-
-    steps-on : (i : Input) → HonestTurn c out (stepOn i c out)
-    unfolding stepOn
+    steps-on : (i : Input) → HonestTurn c out (serve i c out)
+    unfolding serve
     steps-on (driver a) = leaves (accesses a)
     steps-on (frame f) = leaves (arrives f)
     steps-on (sent s) = sends s
 
     steps : (n : ℕ) (i : Input) → HonestTurn c out (stepOf n i c out)
-    unfolding stepOf
-    steps n i = pick (HonestTurn c out) (fit n c) (steps-on i) (refuses 16)
+    steps n i = by-step c out (HonestTurn c out) (λ k. refuses (suc k)) n i (steps-on i)
 
 -- An honest turn with another number than 0 is the refusal of that number.
 honest-refuses : (c : Chip) (out : List ℕ) {t : Turn} → HonestTurn c out t → (t .reply .number ≡ 0 → ⊥) → t ≡ refused (t .reply .number) c out

@@ -7,13 +7,13 @@ use native.Mathlib.Omega.{arith}
 use lib.ListN.{length}
 use Rattle.rules.specs.Bits.{bit, highByte, wordOf}
 use Rattle.rules.specs.Chip.{Chip, size, free, powerUp}
-use Rattle.rules.specs.Answers.{gives, leaving}
+use Rattle.rules.specs.Answers.{doneWith, leaving}
 use Rattle.rules.specs.WellFormed.{WellFormed}
-use Rattle.rules.specs.Registers.{Access, byte, read, registerAt, misplaced, partAt, taken, readRegister, access}
-use Rattle.rules.specs.Step.{Input, driver, frame, stepOn, step, history}
-use Rattle.laws.specs.Fit.{step-fit, fit-decides}
-use Rattle.laws.specs.Count.{free-and-total}
-use Rattle.laws.specs.Keeps.{keeps, powered-fits}
+use Rattle.rules.specs.Registers.{Access, byte, read, registerAt, misplaced, lanesAt, taken, readRegister, access}
+use Rattle.rules.specs.Step.{Input, driver, frame, serve, step, history}
+use Rattle.wellformed.specs.Fit.{step-fit, fit-decides}
+use Rattle.wellformed.specs.Count.{free-and-total}
+use Rattle.wellformed.specs.Keeps.{keeps, powered-fits}
 use Rattle.laws.specs.Accounted.{IsFree, InOne, accounted}
 use Rattle.laws.specs.Ledger.{Ledger, blank, ledgerFrom}
 use Rattle.rules.specs.Receive.{Frame}
@@ -38,19 +38,19 @@ pages-accounted i c out w m p h =
     accounted 24 (step i c out .chip) k p (omega (arith, h, k .count))
 
 -- A byte read of MIR's high byte, bank 0 offset 9, answers 0 with the number of free pages, and changes nothing.
-pub mir-read : (c : Chip) (out : List ℕ) → WellFormed c → length (c .memory) ≡ 6144 → c .regs .bank ≡ 0 → step (driver (read byte 9)) c out ≡ leaving out (gives (length (free c)) c)
-unfolding stepOn access registerAt misplaced partAt bit readRegister taken wordOf highByte
+pub mir-read : (c : Chip) (out : List ℕ) → WellFormed c → length (c .memory) ≡ 6144 → c .regs .numbers .bank ≡ 0 → step (driver (read byte 9)) c out ≡ leaving out (doneWith (length (free c)) c)
+unfolding serve access registerAt misplaced lanesAt bit readRegister taken wordOf highByte
 mir-read c out w m b =
     let few : length (free c) ≤ 24 = omega (arith, free-and-total (size c) (c .pool .pages) (rw (w .count) (w .pages)), w .count) in
     let shown : (size c + length (free c) * 256) / 256 % 256 ≡ length (free c) = omega (arith, w .count) in
-    step-fit 24 (driver (read byte 9)) c out m w ∙ ap (λ (x : ℕ). leaving out (readRegister (registerAt x 9) (partAt byte 9) c)) b ∙ ap (λ (x : ℕ). leaving out (gives x c)) shown
+    step-fit 24 (driver (read byte 9)) c out m w ∙ ap (λ (x : ℕ). leaving out (readRegister (registerAt x 9) (lanesAt byte 9) c)) b ∙ ap (λ (x : ℕ). leaving out (doneWith x c)) shown
 
 -- the driver's ledger of a history from power-up
 abbrev pub ledgerOf : List Input → List ℕ → Ledger
 ledgerOf inputs out = ledgerFrom 24 inputs powerUp out (blank 24)
 
 -- The page ledger: what MIR then reads, with the pages granted, is 24 with the pages given back, since power-up or the last soft or MMU reset.
-pub ledger-balances : (inputs : List Input) (out later : List ℕ) → history inputs out .chip .regs .bank ≡ 0
+pub ledger-balances : (inputs : List Input) (out later : List ℕ) → history inputs out .chip .regs .numbers .bank ≡ 0
     → (step (driver (read byte 9)) (history inputs out .chip) later .reply .number ≡ 0)
     × (step (driver (read byte 9)) (history inputs out .chip) later .reply .value + ledgerOf inputs out .granted ≡ 24 + ledgerOf inputs out .back)
 ledger-balances inputs out later b =

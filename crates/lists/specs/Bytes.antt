@@ -16,16 +16,11 @@ use Rattle.rules.specs.Answers.{over}
 use Rattle.rules.specs.Bits.{bit, wordOf, wordAt}
 use Rattle.rules.specs.Data.{valueOf}
 use Rattle.rules.specs.Receive.{countOf, trailer}
-use Rattle.lists.specs.Facts.{member-first, member-later}
+use Rattle.lists.specs.Facts.{member-at}
 
 -- each page of the list is below n
 abbrev pub Below : ℕ → List ℕ → Type 0
 Below n l = (p : ℕ) → member p l ≡ true → p < n
-
-member-at : (l : List ℕ) (k : ℕ) → k < length l → member (getD l k 0) l ≡ true
-member-at [] k h = absurd (omega arith)
-member-at (x ∷ xs) zero h = member-first x xs
-member-at (x ∷ xs) (suc k) h = member-later (getD xs k 0) x xs (member-at xs k (omega arith))
 
 pub below-at : (n : ℕ) (l : List ℕ) (k : ℕ) → Below n l → k < length l → getD l k 0 < n
 below-at n l k b h = b (getD l k 0) (member-at l k h)

@@ -80,6 +80,15 @@ le-decides a b = record { sound = leb-true a b; complete = le-leb a b }
 pub eq-decides : (a b : ℕ) → Decides (eqb a b) (a ≡ b)
 eq-decides a b = record { sound = eqb-true a b; complete = eq-eqb a b }
 
+-- A list is [] where its length is 0, and else its head and the rest.
+pub no-head : {A : Type 0} (l : List A) → length l ≡ 0 → l ≡ []
+no-head [] h = refl
+no-head (x ∷ xs) h = absurd (omega arith)
+
+pub head-and-rest : {A : Type 0} (l : List A) (d : A) → 0 < length l → l ≡ getD l 0 d ∷ drop 1 l
+head-and-rest [] d h = absurd (omega arith)
+head-and-rest (x ∷ xs) d h = refl
+
 -- Going down a list.
 pub member-here : (x : ℕ) (l : List ℕ) (j : ℕ) → j < length l → x ≡ getD l j 0 → member x (drop j l) ≡ true
 unfolding member
@@ -147,7 +156,11 @@ first-on ls j h e = rw (drop-cons ls j [], add-one j) (go (getD ls j []) e)
     go [] f = absurd (true≢false (sym f))
     go (x ∷ xs) f = sym (add-one _)
 
--- Membership.
+-- Membership. An empty list has no member.
+pub nobody : {A : Type 0} (x : ℕ) → member x [] ≡ true → A
+unfolding member
+nobody x m = absurd (true≢false (sym m))
+
 pub member-cases : (x y : ℕ) (ys : List ℕ) → member x (y ∷ ys) ≡ true → (x ≡ y) ⊎ (member x ys ≡ true)
 unfolding member
 member-cases x y ys e = ⊎-elim (λ t. inl (eqb-true x y t)) inr (or-cases (eqb x y) (member x ys) e)
@@ -159,6 +172,12 @@ member-first x ys = rw (eq-eqb x x refl)
 pub member-later : (x y : ℕ) (ys : List ℕ) → member x ys ≡ true → member x (y ∷ ys) ≡ true
 unfolding member
 member-later x y ys e = or-true (eqb x y) e
+
+-- What stands at a place of a list is in it.
+pub member-at : (l : List ℕ) (i : ℕ) → i < length l → member (getD l i 0) l ≡ true
+member-at [] i h = absurd (omega arith)
+member-at (x ∷ xs) zero h = member-first x xs
+member-at (x ∷ xs) (suc i) h = member-later (getD xs i 0) x xs (member-at xs i (omega arith))
 
 pub member-append : (x : ℕ) (s t : List ℕ) → member x (s ++ t) ≡ true → (member x s ≡ true) ⊎ (member x t ≡ true)
 unfolding member

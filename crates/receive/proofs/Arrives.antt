@@ -5,7 +5,7 @@ use Prim.Native.Nat.{ℕ, _≤_, _<_}
 use borrow.Author.Tests.{lt-ltb, le-ltb}
 use lib.ListN.{length}
 use Rattle.rules.specs.Lists.{freeBelow}
-use Rattle.rules.specs.Answers.{gives, refuse}
+use Rattle.rules.specs.Answers.{doneWith, refuse}
 use Rattle.rules.specs.Receive.{Frame, valueFor, after, judge, arrive}
 use Rattle.store.specs.declared.Page.{Page}
 use Rattle.store.specs.Views.{pagesOf}
@@ -22,7 +22,7 @@ module _ (r : Registers) (m : List (List Page)) (w : Ready r m) (mem : List ℕ)
   refuses f h = rw (lt-ltb _ _ h)
 
   pub goes : (f : Frame) → 18 ≤ length (f .bytes) → (v : Verdict) → arrivalOf v ≡ judge (registersOf r) (length (freeBelow 24 (pagesOf m))) f
-      → arrive f (view r m mem) ≡ gives (valueFor (arrivalOf v)) (after (arrivalOf v) f (view r m mem))
+      → arrive f (view r m mem) ≡ doneWith (valueFor (arrivalOf v)) (after (arrivalOf v) f (view r m mem))
   unfolding arrive
   goes f h v e = rw (le-ltb _ _ h, w .well .count, ← e)
 

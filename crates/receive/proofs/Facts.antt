@@ -29,11 +29,11 @@ same-end a b k h f = rw (drop-of-length-le a {i = k} h, drop-of-length-le b {i =
 
 -- The rules see only what a part is given of the registers.
 module _ (r : Registers) where
-  pub accepted-by : (a : List ℕ) → accepted r a ≡ accepted (filtering (r .rcr) (r .station) (r .table)) a
+  pub accepted-by : (a : List ℕ) → accepted r a ≡ accepted (filtering (r .receiving .rcr) (r .receiving .station) (r .receiving .table)) a
   unfolding accepted
   accepted-by a = refl
 
-  pub data-by : (len : ℕ) → dataLength r len ≡ dataLength (withRcr (r .rcr)) len
+  pub data-by : (len : ℕ) → dataLength r len ≡ dataLength (withRcr (r .receiving .rcr)) len
   unfolding dataLength
   data-by len = refl
 
@@ -41,13 +41,13 @@ module _ (r : Registers) where
   unfolding dropped
   dropped-by f = refl
 
-  pub needed-by : (len n need : ℕ) → n ≡ dataLength (withRcr (r .rcr)) len → need ≡ pagesFor (countOf n) → need ≡ needed r len
+  pub needed-by : (len n need : ℕ) → n ≡ dataLength (withRcr (r .receiving .rcr)) len → need ≡ pagesFor (countOf n) → need ≡ needed r len
   unfolding needed
   needed-by len n need e f = f ∙ ap (λ (x : ℕ). pagesFor (countOf x)) (e ∙ sym (data-by len))
 
   -- The judgement, with its tests answered.
-  pub judge-is : (free : ℕ) (f : Frame) (a b x d y : Bool) → bit 8 (r .rcr) ≡ a → accepted r (destination f) ≡ b → ltb 1532 (length (f .bytes)) ≡ x → dropped r f ≡ d
-      → ltb free (needed r (length (f .bytes)) + r .reserved) ≡ y
+  pub judge-is : (free : ℕ) (f : Frame) (a b x d y : Bool) → bit 8 (r .receiving .rcr) ≡ a → accepted r (destination f) ≡ b → ltb 1532 (length (f .bytes)) ≡ x → dropped r f ≡ d
+      → ltb free (needed r (length (f .bytes)) + r .receiving .reserved) ≡ y
       → judge r free f ≡ cond (not a) disabled (cond (not b) notAccepted (cond x tooLong (cond d bad (cond y noRoom stored))))
   unfolding judge
   judge-is free f a b x d y e₁ e₂ e₃ e₄ e₅ = rw (e₁, e₂, e₃, e₄, e₅)

@@ -3,7 +3,7 @@ use mathlib.Core.Path.{_≡_, ap, _∙_}
 use mathlib.Core.Bool.{true}
 use mathlib.Core.Logic.{⊎-elim}
 use mathlib.Core.List.{List, [], _∷_, _++_}
-use Prim.Native.Nat.{ℕ, _+_, _≤_, _<_}
+use Prim.Native.Nat.{ℕ, _≤_, _<_}
 use native.Mathlib.Omega.{arith}
 use lib.ListN.{length, getD, set, take}
 use lib.Seq.{getD-set-same, length-take-le}
@@ -13,9 +13,9 @@ use Rattle.rules.specs.Fields.{setPages, setRx}
 use Rattle.rules.specs.Packet.{putBytes}
 use Rattle.rules.specs.Receive.{Frame, stored, dataLength, countOf, pagesFor, needed, frameStatus, image, judge, stow}
 use Rattle.lists.specs.Facts.{if-not, member-cases, member-take, member-free}
-use Rattle.laws.specs.Count.{distinct-few}
-use Rattle.laws.specs.Pool.{has-small, number-free, number-not-rx}
-use Rattle.laws.specs.Keeps.{Storable, storable, needs-one, needs-seven, data-short}
+use Rattle.wellformed.specs.Count.{distinct-few}
+use Rattle.wellformed.specs.Pool.{has-small, number-free, number-not-rx}
+use Rattle.wellformed.specs.Frames.{Storable, storable, needs-one, needs-seven, data-short}
 use Rattle.store.specs.declared.Page.{Page}
 use Rattle.store.specs.Views.{used, pagesOf, entries}
 use Rattle.packet.specs.Room.{Room, imageOf}

@@ -12,7 +12,7 @@ ghost use mathlib.Core.Path.{_≡_};
 ghost use mathlib.Core.List.{List};
 ghost use Prim.Native.Nat.{ℕ};
 ghost use lib.ListN.{length};
-ghost use Rattle.rules.specs.Answers.{gives};
+ghost use Rattle.rules.specs.Answers.{doneWith};
 ghost use Rattle.rules.specs.Receive.{arrive};
 ghost use Rattle.state.specs.View.{view, Ready, Makes};
 ghost use Rattle.receive.specs.Arrivals.{frameOf, aborting};
@@ -30,7 +30,7 @@ enum Verdict {
 // The frame is not stored, and RX_ABORT says so; RX_OVRN becomes `overrun`.
 fn aborted(r: Registers, map: [[Page; 8]; 24], value: u16, overrun: bool) -> Stepped
     requires { ⌜ Ready r map ⌝ }
-    ensures { λ s. ⌜ ((mem : List ℕ) → Makes (gives value (aborting overrun (view r map mem))) mem s) ⌝ }
+    ensures { λ s. ⌜ ((mem : List ℕ) → Makes (doneWith value (aborting overrun (view r map mem))) mem s) ⌝ }
 {
     let mut next = r;
     next.rcr = bits::with_set(r.rcr, 0);

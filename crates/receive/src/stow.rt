@@ -12,7 +12,7 @@ ghost use mathlib.Core.Path.{_≡_};
 ghost use Prim.Native.Nat.{_≤_};
 ghost use lib.ListN.{length};
 ghost use Rattle.rules.specs.Lists.{freeBelow};
-ghost use Rattle.rules.specs.Answers.{gives};
+ghost use Rattle.rules.specs.Answers.{doneWith};
 ghost use Rattle.rules.specs.Receive.{stored, judge, stow};
 ghost use Rattle.store.specs.Views.{pagesOf};
 ghost use Rattle.state.specs.View.{view, registersOf, Ready, Makes};
@@ -28,7 +28,7 @@ pub fn stowed(
     alignment: bool,
 ) -> Stepped
     requires { ⌜ Ready r map × (length (now memory) ≡ 6144) × (18 ≤ length (now frame)) × (judge (registersOf r) (length (freeBelow 24 (pagesOf map))) (frameOf (now frame) badcrc alignment) ≡ stored) ⌝ }
-    ensures { λ s. ⌜ Makes (gives 0 (stow (frameOf (now (frame .entry)) badcrc alignment) (view r map (now (memory .entry))))) (now (memory .exit)) s ⌝ }
+    ensures { λ s. ⌜ Makes (doneWith 0 (stow (frameOf (now (frame .entry)) badcrc alignment) (view r map (now (memory .entry))))) (now (memory .exit)) s ⌝ }
 {
     let n = data_length(r.rcr, frame.len());
     let number = Packet(store::lowest_unallocated(map) as u8);

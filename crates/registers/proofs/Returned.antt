@@ -5,7 +5,7 @@ use Prim.Native.Nat.{ℕ}
 use lib.ListN.{replicate}
 use Rattle.rules.specs.Chip as rules
 use Rattle.rules.specs.Chip.{emptyPool}
-use Rattle.rules.specs.Answers.{Step}
+use Rattle.rules.specs.Answers.{Effect}
 use Rattle.store.specs.declared.Page.{Page}
 use Rattle.store.specs.Views.{pagesOf, SoundMap}
 use Rattle.state.specs.declared.Registers.{Registers}
@@ -16,22 +16,22 @@ use Rattle.state.specs.View.{view, replyOf, SoundQueues, Makes, Touches}
 use Rattle.registers.specs.Promises.{Reset}
 
 -- The answer a and the registers `next` are the step's reply and chip.
-pub returned : (a : Answer) (next : Registers) (m : List (List Page)) (mem : List ℕ) (s : Step) (t : Touched)
+pub returned : (a : Answer) (next : Registers) (m : List (List Page)) (mem : List ℕ) (s : Effect) (t : Touched)
     → SoundQueues (next .rx) (next .tx) (next .done) → t ≡ record { answer = a; registers = next } → s ≡ record { reply = replyOf a; chip = view next m mem }
     → Touches s m mem t
 returned a next m mem s t q e h = rw e (record {
-  chip = sym (ap (λ (x : Step). x .chip) h);
-  reply = sym (ap (λ (x : Step). x .reply) h);
+  chip = sym (ap (λ (x : Effect). x .chip) h);
+  reply = sym (ap (λ (x : Effect). x .reply) h);
   queues = q;
 })
 
 -- The same with the page map n.
-pub stepped : (a : Answer) (next : Registers) (n : List (List Page)) (mem : List ℕ) (s : Step) (x : Stepped)
+pub stepped : (a : Answer) (next : Registers) (n : List (List Page)) (mem : List ℕ) (s : Effect) (x : Stepped)
     → SoundQueues (next .rx) (next .tx) (next .done) → SoundMap n → x ≡ record { answer = a; registers = next; pages = n }
     → s ≡ record { reply = replyOf a; chip = view next n mem } → Makes s mem x
 stepped a next n mem s x q d e h = rw e (record {
-  chip = sym (ap (λ (y : Step). y .chip) h);
-  reply = sym (ap (λ (y : Step). y .reply) h);
+  chip = sym (ap (λ (y : Effect). y .chip) h);
+  reply = sym (ap (λ (y : Effect). y .reply) h);
   queues = q;
   map = d;
 })

@@ -7,10 +7,10 @@ use Rattle.rules.specs.Chip.{Registers}
 use Rattle.rules.specs.Fields.{setTcr, setEphsr}
 use Rattle.rules.specs.Registers.{forgotten, writeTcr}
 
-pub by-level : (x : ℕ) (r : Registers) → writeTcr x r ≡ setTcr x (setEphsr (cond (bit 0 x) (forgotten (r .ephsr)) (r .ephsr)) r)
+pub by-level : (x : ℕ) (r : Registers) → writeTcr x r ≡ setTcr x (setEphsr (cond (bit 0 x) (forgotten (r .sending .ephsr)) (r .sending .ephsr)) r)
 unfolding writeTcr
 by-level x r = go (bit 0 x)
   where
-    go : (b : Bool) → cond b (setTcr x (setEphsr (forgotten (r .ephsr)) r)) (setTcr x r) ≡ setTcr x (setEphsr (cond b (forgotten (r .ephsr)) (r .ephsr)) r)
+    go : (b : Bool) → cond b (setTcr x (setEphsr (forgotten (r .sending .ephsr)) r)) (setTcr x r) ≡ setTcr x (setEphsr (cond b (forgotten (r .sending .ephsr)) (r .sending .ephsr)) r)
     go true = refl
     go false = refl

@@ -14,7 +14,7 @@ abbrev pub widthOf : Width → rules.Width
 widthOf width.Byte = rules.byte
 widthOf width.Word = rules.word
 
-abbrev pub partOf : Part → rules.Part
+abbrev pub partOf : Part → rules.Lanes
 partOf part.Low = rules.low
 partOf part.High = rules.high
 partOf part.Both = rules.both

@@ -27,7 +27,7 @@ pub fn misplaced(width: Width, offset: u8) -> bool
 
 // Which bytes of its register an access reaches.
 pub fn part_at(width: Width, offset: u8) -> Part
-    ensures { λ p. ⌜ partOf p ≡ rules.partAt (widthOf width) offset ⌝ }
+    ensures { λ p. ⌜ partOf p ≡ rules.lanesAt (widthOf width) offset ⌝ }
 {
     match width {
         Width::Byte => {

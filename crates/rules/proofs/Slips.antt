@@ -1,25 +1,24 @@
 -- Document 01's plausible slips, each ruled out by a short law of the rules. (A must-fail edit reaches its own crate only, so these stand here and not in `laws`.)
-use mathlib.Core.Path.{_≡_, refl, ap, sym, _∙_}
+use mathlib.Core.Path.{_≡_, refl}
 use mathlib.Core.Bool.{Bool, true, false, cond}
 use mathlib.Core.List.{List, [], _∷_}
 use Prim.Native.Nat.{ℕ, zero, suc, _≤_, _<_}
 use native.Mathlib.Omega.{arith}
-use borrow.Author.Tests.{le-leb, eq-eqb}
-use lib.Dec.{eqb}
-use lib.ListN.{length, getD, set, take}
+use borrow.Author.Tests.{le-leb}
+use lib.ListN.{length, getD, take}
 use lib.Seq.{getD-set-same, getD-set-other}
 use Rattle.rules.specs.Bits.{bit, lowByte, highByte, wordOf, wordAt}
 use Rattle.rules.specs.Lists.{firstEmpty, some?}
 use Rattle.rules.specs.Chip.{Chip, size, pagesAt, free}
-use Rattle.rules.specs.Answers.{Step, refuse}
+use Rattle.rules.specs.Answers.{Effect, refuse}
 use Rattle.rules.specs.Mmu.{perform, allocate, removeAndRelease}
-use Rattle.rules.specs.Data.{against, oddFixed, past, ifOpen}
+use Rattle.rules.specs.Data.{against, ifOpen}
 use Rattle.rules.specs.Crc.{crcBit, crcBits, crcFrom, crc, hash}
-use Rattle.rules.specs.WellFormed.{ascends, allBelow, apart, noneOwned, pagesGood, queueGood, queuesGood, numbersGood, formed, fit}
-use Rattle.rules.specs.Registers.{byte, word, read, write, misplaced, registerAt, partAt, taken, headOf, lowOnly, readRegister, writeRegister, access}
+use Rattle.rules.specs.Tests.{ascends, allBelow, apart, noneOwned, pagesGood, queueGood, queuesGood, numbersGood, formed, fit}
+use Rattle.rules.specs.Registers.{byte, word, read, write, misplaced, registerAt, lanesAt, taken, headOf, lowOnly, readRegister, writeRegister, access}
 use Rattle.rules.specs.Receive.{Frame, stored, countOf, needed, image, after}
-use Rattle.rules.specs.Send.{Send, good, autoRelease, tally, counted, nibble, finish}
-use Rattle.rules.specs.Step.{driver, stepOn, stepOf, runOf, history}
+use Rattle.rules.specs.Send.{Send, good, autoRelease, tally, counted, nibble, sendHead}
+use Rattle.rules.specs.Step.{driver, serve, stepOf, runOf, history}
 
 -- 80h gives back the pages of the RX head and of no other packet, whatever the packet number register says.
 pub head-alone : (c : Chip) (k : ℕ) (ks : List ℕ) → c .pool .rx ≡ k ∷ ks → (j : ℕ) → (j ≡ k → ⊥) → pagesAt (perform removeAndRelease c .chip) j ≡ pagesAt c j
@@ -41,7 +40,7 @@ lowest ((p ∷ ps) ∷ ls) (suc j) h = lowest ls j (omega arith)
 
 -- The allocation result names the packet that has the granted pages: no page number.
 pub result-has : (c : Chip) (n : ℕ) → n ≤ length (free c) → firstEmpty (c .pool .pages) < size c
-    → pagesAt (perform (allocate n) c .chip) (perform (allocate n) c .chip .regs .result) ≡ take n (free c)
+    → pagesAt (perform (allocate n) c .chip) (perform (allocate n) c .chip .regs .numbers .result) ≡ take n (free c)
 unfolding perform
 result-has c n h k = rw (le-leb n (length (free c)) h) (getD-set-same (c .pool .pages) (firstEmpty (c .pool .pages)) (take n (free c)) [] k)
 
@@ -51,9 +50,9 @@ unfolding after
 stored-in-free f c k = getD-set-same (c .pool .pages) (firstEmpty (c .pool .pages)) (take (needed (c .regs) (length (f .bytes))) (free c)) [] k
 
 -- A sent packet leaves TX, released or not.
-pub sent-leaves-tx : (s : Send) (k : ℕ) (rest : List ℕ) (c : Chip) (out : List ℕ) → finish s k rest c out .chip .pool .tx ≡ rest
-unfolding finish
-sent-leaves-tx s k rest c out = either (autoRelease (good (c .regs .tcr) (s .outcome)) (c .regs)) _ _ refl refl
+pub sent-leaves-tx : (s : Send) (k : ℕ) (rest : List ℕ) (c : Chip) (out : List ℕ) → sendHead s k rest c out .chip .pool .tx ≡ rest
+unfolding sendHead
+sent-leaves-tx s k rest c out = either (autoRelease (good (c .regs .sending .tcr) (s .outcome)) (c .regs)) _ _ refl refl
   where
     either : (b : Bool) (x y : Chip) → x .pool .tx ≡ rest → y .pool .tx ≡ rest → cond b x y .pool .tx ≡ rest
     either true x y p q = p
@@ -82,10 +81,10 @@ failed-single s ecr a b = rw (a, b)
 -- The first answer is no refusal and not 0, and the next is that of the chip after it: the bank is read, then bank 2 is selected and its queue heads are read.
 pub answers-go-on : (out : List ℕ) → history (driver (read word 14) ∷ driver (write byte 14 2) ∷ driver (read word 4) ∷ []) out .replies
     ≡ record { number = 0; value = 0x3300 } ∷ record { number = 0; value = 0 } ∷ record { number = 0; value = 0x8080 } ∷ []
-unfolding runOf stepOf fit formed pagesGood ascends allBelow noneOwned numbersGood queuesGood queueGood apart stepOn access misplaced bit registerAt partAt readRegister writeRegister taken lowOnly wordOf headOf
+unfolding runOf stepOf fit formed pagesGood ascends allBelow noneOwned numbersGood queuesGood queueGood apart serve access misplaced bit registerAt lanesAt readRegister writeRegister taken lowOnly wordOf headOf
 answers-go-on out = refl
 
 -- Refusal 8 comes before 9 and 10.
-pub eight-first : (isRead : Bool) (width : ℕ) (pages : List ℕ) (c : Chip) (s : Step) → against isRead (c .regs .pointer) ≡ true → ifOpen isRead width pages c s ≡ refuse 8 c
+pub eight-first : (isRead : Bool) (width : ℕ) (pages : List ℕ) (c : Chip) (e : Effect) → against isRead (c .regs .pointer) ≡ true → ifOpen isRead width pages c e ≡ refuse 8 c
 unfolding ifOpen
-eight-first isRead width pages c s h = rw h
+eight-first isRead width pages c e h = rw h

@@ -8,23 +8,23 @@ pub record Reply : Type 0 where
   pub number : ℕ
   pub value : ℕ
 
--- an access or an arriving frame: the reply, and the chip after it
-pub record Step : Type 0 where
+-- what an access or an arriving frame does: the reply, and the chip after it
+pub record Effect : Type 0 where
   pub reply : Reply
   pub chip : Chip
 
--- any input: the reply, and the chip and the output buffer after it
+-- what any input does: the reply, and the chip and the output buffer after it
 pub record Turn : Type 0 where
   pub reply : Reply
   pub chip : Chip
   pub output : List ℕ
 
 -- 0, done, with a value
-abbrev pub gives : ℕ → Chip → Step
-gives v c = record { reply = record { number = 0; value = v }; chip = c }
+abbrev pub doneWith : ℕ → Chip → Effect
+doneWith v c = record { reply = record { number = 0; value = v }; chip = c }
 
-abbrev pub did : Chip → Step
-did c = gives 0 c
+abbrev pub did : Chip → Effect
+did c = doneWith 0 c
 
 abbrev pub done : Reply
 done = record { number = 0; value = 0 }
@@ -32,15 +32,15 @@ done = record { number = 0; value = 0 }
 abbrev pub refusal : ℕ → Reply
 refusal n = record { number = n; value = 0 }
 
-abbrev pub refuse : ℕ → Chip → Step
+abbrev pub refuse : ℕ → Chip → Effect
 refuse n c = record { reply = refusal n; chip = c }
 
 abbrev pub refused : ℕ → Chip → List ℕ → Turn
 refused n c out = record { reply = refusal n; chip = c; output = out }
 
--- a step that leaves the output buffer
-abbrev pub leaving : List ℕ → Step → Turn
-leaving out s = record { reply = s .reply; chip = s .chip; output = out }
+-- an effect that leaves the output buffer
+abbrev pub leaving : List ℕ → Effect → Turn
+leaving out e = record { reply = e .reply; chip = e .chip; output = out }
 
 -- a buffer with bytes written over its front
 abbrev pub over : List ℕ → List ℕ → List ℕ

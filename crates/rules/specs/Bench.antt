@@ -1,14 +1,13 @@
 -- Document 01, "Bench program and its records".
-use mathlib.Core.Bool.{Bool, true, false, cond, _&&_}
+use mathlib.Core.Bool.{Bool, cond, not, _&&_}
 use mathlib.Core.List.{List, [], _∷_, _++_}
-use Prim.Native.Nat.{ℕ, zero, suc, _+_, _*_, _/_, _%_}
+use Prim.Native.Nat.{ℕ, zero, suc, _+_, _/_, _%_}
 use lib.Dec.{eqb, leb, ltb}
 use lib.ListN.{length, getD, take, drop, replicate}
 use Rattle.rules.specs.Bits.{bit, wordOf}
 use Rattle.rules.specs.Chip.{Chip, powerUp}
 use Rattle.rules.specs.Answers.{Reply, done, refusal}
 use Rattle.rules.specs.Registers.{Access, read, write, byte, word}
-use Rattle.rules.specs.Receive.{Frame}
 use Rattle.rules.specs.Send.{Send}
 use Rattle.rules.specs.Step.{Input, driver, frame, sent, step}
 
@@ -29,7 +28,7 @@ at bytes k = getD bytes k 0
 abbrev pub valueIn : List ℕ → ℕ
 valueIn bytes = wordOf (at bytes 2) (at bytes 3)
 
--- "Byte 0: 1 read byte, 2 read word, 3 write byte, 4 write word (offset, value low, high); 5 wire bytes; 6 frame ends; 7 send"
+-- "Byte 0: 1 read byte, 2 read word, 3 write byte, 4 write word (offset, value low, high); 5 wire bytes", "6 frame ends", "7 send (outcome, collisions, deferral)"
 unfoldable pub eventOf : List ℕ → Event
 eventOf b =
     cond (eqb (at b 0) 1) (access (read byte (at b 1)))
@@ -53,30 +52,29 @@ pub record Answered : Type 0 where
   pub reply : Reply
   pub bench : Bench
 
--- a step of the chip, after which so many wire bytes are gathered
-abbrev pub stepped : Input → List ℕ → Bench → Answered
-stepped i left b = let t = step i (b .chip) (b .output) in record { reply = t .reply; bench = record { chip = t .chip; gathered = left; output = t .output } }
+-- a step of the chip, with the wire bytes that are gathered after it
+abbrev pub asStep : Input → List ℕ → Bench → Answered
+asStep i left b = let t = step i (b .chip) (b .output) in record { reply = t .reply; bench = record { chip = t .chip; gathered = left; output = t .output } }
 
 -- "count 1 to 6, then bytes; 11 if the count is wrong or more than 2,048 would gather"
 unfoldable pub gather : ℕ → List ℕ → Bench → Answered
 gather count bytes b =
-    cond (leb 1 count && leb count 6 && leb (length (b .gathered) + count) 2048)
+    cond (not (leb 1 count && leb count 6 && leb (length (b .gathered) + count) 2048)) (record { reply = refusal 11; bench = b })
     (record { reply = done; bench = record { chip = b .chip; gathered = b .gathered ++ take count bytes; output = b .output } })
-    (record { reply = refusal 11; bench = b })
 
 unfoldable pub answer : Event → Bench → Answered
-answer (access a) b = stepped (driver a) (b .gathered) b
+answer (access a) b = asStep (driver a) (b .gathered) b
 answer (wire count bytes) b = gather count bytes b
 -- "gathering emptied whatever the answer"
-answer (frameEnds crc align) b = stepped (frame (record { bytes = b .gathered; badCrc = crc; alignment = align })) [] b
-answer (send s) b = stepped (sent s) (b .gathered) b
+answer (frameEnds crc align) b = asStep (frame (record { bytes = b .gathered; badCrc = crc; alignment = align })) [] b
+answer (send s) b = asStep (sent s) (b .gathered) b
 -- "record cut short or of unknown kind"
 answer unknown b = record { reply = refusal 17; bench = b }
 
 -- a number's decimal digits as characters: at most n + 1 of them
 unfoldable pub decimalIn : ℕ → ℕ → List ℕ
 decimalIn zero x = []
-decimalIn (suc n) x = elim (ltb x 10) [ true ↦ (0x30 + x) ∷ [] | false ↦ decimalIn n (x / 10) ++ ((0x30 + x % 10) ∷ []) ]
+decimalIn (suc n) x = cond (ltb x 10) ((0x30 + x) ∷ []) (decimalIn n (x / 10) ++ ((0x30 + x % 10) ∷ []))
 
 abbrev pub decimal : ℕ → List ℕ
 decimal x = decimalIn (suc x) x
@@ -98,11 +96,9 @@ unfoldable pub printed : ℕ → ℕ → List ℕ → Bench → List ℕ
 printed zero k input b = []
 printed (suc n) k [] b = []
 printed (suc n) k (x ∷ xs) b =
-    elim (ltb (length (x ∷ xs)) 8) [
-      | true ↦ line k (refusal 17)
-      | false ↦ let a = answer (eventOf (take 8 (x ∷ xs))) b in line k (a .reply) ++ printed n (k + 1) (drop 8 (x ∷ xs)) (a .bench)
-    ]
+    cond (ltb (length (x ∷ xs)) 8) (line k (refusal 17))
+    (let a = answer (eventOf (take 8 (x ∷ xs))) b in line k (a .reply) ++ printed n (k + 1) (drop 8 (x ∷ xs)) (a .bench))
 
--- "The program 'bench' starts from power-up and reads standard input"
+-- what the program prints for its standard input: it "starts from power-up"
 abbrev pub bench : List ℕ → List ℕ
 bench input = printed (length input) 1 input started

@@ -5,30 +5,45 @@ use Prim.Native.Nat.{ℕ, _*_}
 use lib.ListN.{length, getD, replicate}
 use Rattle.rules.specs.Lists.{some?, freeBelow}
 
--- the registers of each bank, and the two latches
-pub record Registers : Type 0 where
-  -- bank 0
+-- what a send reads and writes
+pub record Sending : Type 0 where
+  -- bank 0, offsets 0, 2 and 6
   pub tcr : ℕ
   pub ephsr : ℕ
-  pub rcr : ℕ
   pub ecr : ℕ
-  -- pages reserved for transmit
+  -- TX EMPTY, latched
+  pub txEmpty : Bool
+
+-- what decides of an arriving frame, and RX_OVRN, which it may set
+pub record Receiving : Type 0 where
+  -- bank 0, offsets 4 and A: RCR, and the pages reserved for transmit
+  pub rcr : ℕ
   pub reserved : ℕ
-  -- bank 1: the station address, first wire byte first; control
+  -- bank 1, offsets 4 to 9: the station address, first wire byte first
   pub station : List ℕ
-  pub control : ℕ
-  -- bank 2: the packet number register, the allocation result, the pointer, the interrupt mask
-  pub packet : ℕ
-  pub result : ℕ
-  pub pointer : ℕ
-  pub mask : ℕ
   -- bank 3: the multicast table, eight bytes
   pub table : List ℕ
+  -- RX_OVRN, latched
+  pub overrun : Bool
+
+-- numbers of a bank and of packets: the registers that well-formedness bounds
+pub record Numbers : Type 0 where
   -- offset E of every bank
   pub bank : ℕ
-  -- TX EMPTY and RX_OVRN, latched
-  pub txEmpty : Bool
-  pub overrun : Bool
+  -- bank 2, offsets 2 and 3: the packet number register, the allocation result
+  pub packet : ℕ
+  pub result : ℕ
+
+pub record Registers : Type 0 where
+  pub sending : Sending
+  pub receiving : Receiving
+  pub numbers : Numbers
+  -- bank 2, offset 6
+  pub pointer : ℕ
+  -- bank 1, offset C
+  pub control : ℕ
+  -- bank 2, offset D
+  pub mask : ℕ
 
 -- who has which page, and the three FIFOs of packet numbers, head first
 pub record Pool : Type 0 where
@@ -36,8 +51,7 @@ pub record Pool : Type 0 where
   pub pages : List (List ℕ)
   pub rx : List ℕ
   pub tx : List ℕ
-  -- completion
-  pub done : List ℕ
+  pub completion : List ℕ
 
 pub record Chip : Type 0 where
   pub regs : Registers
@@ -64,25 +78,16 @@ allocated k c = some? (pagesAt c k)
 -- "Reset values: no packets, FIFOs empty, all 0 but allocation result 80h and TX EMPTY set."
 abbrev pub resetRegisters : List ℕ → Registers
 resetRegisters station = record {
-  tcr = 0;
-  ephsr = 0;
-  rcr = 0;
-  ecr = 0;
-  reserved = 0;
-  station = station;
-  control = 0;
-  packet = 0;
-  result = 0x80;
+  sending = record { tcr = 0; ephsr = 0; ecr = 0; txEmpty = true };
+  receiving = record { rcr = 0; reserved = 0; station = station; table = replicate 8 0; overrun = false };
+  numbers = record { bank = 0; packet = 0; result = 0x80 };
   pointer = 0;
+  control = 0;
   mask = 0;
-  table = replicate 8 0;
-  bank = 0;
-  txEmpty = true;
-  overrun = false;
 }
 
 abbrev pub emptyPool : ℕ → Pool
-emptyPool n = record { pages = replicate n []; rx = []; tx = []; done = [] }
+emptyPool n = record { pages = replicate n []; rx = []; tx = []; completion = [] }
 
 -- power-up of a part with n pages: "the memory is 6,144 zero bytes"
 abbrev pub powered : ℕ → Chip

@@ -1,7 +1,7 @@
 -- Document 01: "the CRC of IEEE 802.3 run over the .. bytes in wire bit order, preset to ones, not complemented, shifted left".
 use mathlib.Core.Bool.{cond}
 use mathlib.Core.List.{List, [], _∷_}
-use Prim.Native.Nat.{ℕ, zero, suc, _+_, _*_, _/_, _%_, _^_}
+use Prim.Native.Nat.{ℕ, zero, suc, _*_, _/_, _%_, _^_}
 use lib.Dec.{eqb}
 use lib.Bits.{bitXor}
 

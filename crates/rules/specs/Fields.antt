@@ -1,65 +1,75 @@
--- One field replaced: of the registers, of the pool, of the chip.
+-- One field replaced: of the registers, of the pool, of the chip. `proofs/Setters` shows that each leaves every other field.
 use mathlib.Core.Bool.{Bool}
 use mathlib.Core.List.{List}
 use Prim.Native.Nat.{ℕ}
-use Rattle.rules.specs.Chip.{Registers, Pool, Chip}
+use Rattle.rules.specs.Chip.{Sending, Receiving, Numbers, Registers, Pool, Chip}
+
+-- a change of one group of the registers
+abbrev pub inSending : (Sending → Sending) → Registers → Registers
+inSending f r = record { sending = f (r .sending); receiving = r .receiving; numbers = r .numbers; pointer = r .pointer; control = r .control; mask = r .mask }
+
+abbrev pub inReceiving : (Receiving → Receiving) → Registers → Registers
+inReceiving f r = record { sending = r .sending; receiving = f (r .receiving); numbers = r .numbers; pointer = r .pointer; control = r .control; mask = r .mask }
+
+abbrev pub inNumbers : (Numbers → Numbers) → Registers → Registers
+inNumbers f r = record { sending = r .sending; receiving = r .receiving; numbers = f (r .numbers); pointer = r .pointer; control = r .control; mask = r .mask }
 
 abbrev pub setTcr : ℕ → Registers → Registers
-setTcr x r = record { tcr = x; ephsr = r .ephsr; rcr = r .rcr; ecr = r .ecr; reserved = r .reserved; station = r .station; control = r .control; packet = r .packet; result = r .result; pointer = r .pointer; mask = r .mask; table = r .table; bank = r .bank; txEmpty = r .txEmpty; overrun = r .overrun }
+setTcr x = inSending (λ s. record { tcr = x; ephsr = s .ephsr; ecr = s .ecr; txEmpty = s .txEmpty })
 
 abbrev pub setEphsr : ℕ → Registers → Registers
-setEphsr x r = record { tcr = r .tcr; ephsr = x; rcr = r .rcr; ecr = r .ecr; reserved = r .reserved; station = r .station; control = r .control; packet = r .packet; result = r .result; pointer = r .pointer; mask = r .mask; table = r .table; bank = r .bank; txEmpty = r .txEmpty; overrun = r .overrun }
-
-abbrev pub setRcr : ℕ → Registers → Registers
-setRcr x r = record { tcr = r .tcr; ephsr = r .ephsr; rcr = x; ecr = r .ecr; reserved = r .reserved; station = r .station; control = r .control; packet = r .packet; result = r .result; pointer = r .pointer; mask = r .mask; table = r .table; bank = r .bank; txEmpty = r .txEmpty; overrun = r .overrun }
+setEphsr x = inSending (λ s. record { tcr = s .tcr; ephsr = x; ecr = s .ecr; txEmpty = s .txEmpty })
 
 abbrev pub setEcr : ℕ → Registers → Registers
-setEcr x r = record { tcr = r .tcr; ephsr = r .ephsr; rcr = r .rcr; ecr = x; reserved = r .reserved; station = r .station; control = r .control; packet = r .packet; result = r .result; pointer = r .pointer; mask = r .mask; table = r .table; bank = r .bank; txEmpty = r .txEmpty; overrun = r .overrun }
-
-abbrev pub setReserved : ℕ → Registers → Registers
-setReserved x r = record { tcr = r .tcr; ephsr = r .ephsr; rcr = r .rcr; ecr = r .ecr; reserved = x; station = r .station; control = r .control; packet = r .packet; result = r .result; pointer = r .pointer; mask = r .mask; table = r .table; bank = r .bank; txEmpty = r .txEmpty; overrun = r .overrun }
-
-abbrev pub setStation : List ℕ → Registers → Registers
-setStation x r = record { tcr = r .tcr; ephsr = r .ephsr; rcr = r .rcr; ecr = r .ecr; reserved = r .reserved; station = x; control = r .control; packet = r .packet; result = r .result; pointer = r .pointer; mask = r .mask; table = r .table; bank = r .bank; txEmpty = r .txEmpty; overrun = r .overrun }
-
-abbrev pub setControl : ℕ → Registers → Registers
-setControl x r = record { tcr = r .tcr; ephsr = r .ephsr; rcr = r .rcr; ecr = r .ecr; reserved = r .reserved; station = r .station; control = x; packet = r .packet; result = r .result; pointer = r .pointer; mask = r .mask; table = r .table; bank = r .bank; txEmpty = r .txEmpty; overrun = r .overrun }
-
-abbrev pub setPacket : ℕ → Registers → Registers
-setPacket x r = record { tcr = r .tcr; ephsr = r .ephsr; rcr = r .rcr; ecr = r .ecr; reserved = r .reserved; station = r .station; control = r .control; packet = x; result = r .result; pointer = r .pointer; mask = r .mask; table = r .table; bank = r .bank; txEmpty = r .txEmpty; overrun = r .overrun }
-
-abbrev pub setResult : ℕ → Registers → Registers
-setResult x r = record { tcr = r .tcr; ephsr = r .ephsr; rcr = r .rcr; ecr = r .ecr; reserved = r .reserved; station = r .station; control = r .control; packet = r .packet; result = x; pointer = r .pointer; mask = r .mask; table = r .table; bank = r .bank; txEmpty = r .txEmpty; overrun = r .overrun }
-
-abbrev pub setPointer : ℕ → Registers → Registers
-setPointer x r = record { tcr = r .tcr; ephsr = r .ephsr; rcr = r .rcr; ecr = r .ecr; reserved = r .reserved; station = r .station; control = r .control; packet = r .packet; result = r .result; pointer = x; mask = r .mask; table = r .table; bank = r .bank; txEmpty = r .txEmpty; overrun = r .overrun }
-
-abbrev pub setMask : ℕ → Registers → Registers
-setMask x r = record { tcr = r .tcr; ephsr = r .ephsr; rcr = r .rcr; ecr = r .ecr; reserved = r .reserved; station = r .station; control = r .control; packet = r .packet; result = r .result; pointer = r .pointer; mask = x; table = r .table; bank = r .bank; txEmpty = r .txEmpty; overrun = r .overrun }
-
-abbrev pub setTable : List ℕ → Registers → Registers
-setTable x r = record { tcr = r .tcr; ephsr = r .ephsr; rcr = r .rcr; ecr = r .ecr; reserved = r .reserved; station = r .station; control = r .control; packet = r .packet; result = r .result; pointer = r .pointer; mask = r .mask; table = x; bank = r .bank; txEmpty = r .txEmpty; overrun = r .overrun }
-
-abbrev pub setBank : ℕ → Registers → Registers
-setBank x r = record { tcr = r .tcr; ephsr = r .ephsr; rcr = r .rcr; ecr = r .ecr; reserved = r .reserved; station = r .station; control = r .control; packet = r .packet; result = r .result; pointer = r .pointer; mask = r .mask; table = r .table; bank = x; txEmpty = r .txEmpty; overrun = r .overrun }
+setEcr x = inSending (λ s. record { tcr = s .tcr; ephsr = s .ephsr; ecr = x; txEmpty = s .txEmpty })
 
 abbrev pub setTxEmpty : Bool → Registers → Registers
-setTxEmpty x r = record { tcr = r .tcr; ephsr = r .ephsr; rcr = r .rcr; ecr = r .ecr; reserved = r .reserved; station = r .station; control = r .control; packet = r .packet; result = r .result; pointer = r .pointer; mask = r .mask; table = r .table; bank = r .bank; txEmpty = x; overrun = r .overrun }
+setTxEmpty x = inSending (λ s. record { tcr = s .tcr; ephsr = s .ephsr; ecr = s .ecr; txEmpty = x })
+
+abbrev pub setRcr : ℕ → Registers → Registers
+setRcr x = inReceiving (λ s. record { rcr = x; reserved = s .reserved; station = s .station; table = s .table; overrun = s .overrun })
+
+abbrev pub setReserved : ℕ → Registers → Registers
+setReserved x = inReceiving (λ s. record { rcr = s .rcr; reserved = x; station = s .station; table = s .table; overrun = s .overrun })
+
+abbrev pub setStation : List ℕ → Registers → Registers
+setStation x = inReceiving (λ s. record { rcr = s .rcr; reserved = s .reserved; station = x; table = s .table; overrun = s .overrun })
+
+abbrev pub setTable : List ℕ → Registers → Registers
+setTable x = inReceiving (λ s. record { rcr = s .rcr; reserved = s .reserved; station = s .station; table = x; overrun = s .overrun })
 
 abbrev pub setOverrun : Bool → Registers → Registers
-setOverrun x r = record { tcr = r .tcr; ephsr = r .ephsr; rcr = r .rcr; ecr = r .ecr; reserved = r .reserved; station = r .station; control = r .control; packet = r .packet; result = r .result; pointer = r .pointer; mask = r .mask; table = r .table; bank = r .bank; txEmpty = r .txEmpty; overrun = x }
+setOverrun x = inReceiving (λ s. record { rcr = s .rcr; reserved = s .reserved; station = s .station; table = s .table; overrun = x })
+
+abbrev pub setBank : ℕ → Registers → Registers
+setBank x = inNumbers (λ s. record { bank = x; packet = s .packet; result = s .result })
+
+abbrev pub setPacket : ℕ → Registers → Registers
+setPacket x = inNumbers (λ s. record { bank = s .bank; packet = x; result = s .result })
+
+abbrev pub setResult : ℕ → Registers → Registers
+setResult x = inNumbers (λ s. record { bank = s .bank; packet = s .packet; result = x })
+
+abbrev pub setPointer : ℕ → Registers → Registers
+setPointer x r = record { sending = r .sending; receiving = r .receiving; numbers = r .numbers; pointer = x; control = r .control; mask = r .mask }
+
+abbrev pub setControl : ℕ → Registers → Registers
+setControl x r = record { sending = r .sending; receiving = r .receiving; numbers = r .numbers; pointer = r .pointer; control = x; mask = r .mask }
+
+abbrev pub setMask : ℕ → Registers → Registers
+setMask x r = record { sending = r .sending; receiving = r .receiving; numbers = r .numbers; pointer = r .pointer; control = r .control; mask = x }
 
 abbrev pub setPages : List (List ℕ) → Pool → Pool
-setPages x q = record { pages = x; rx = q .rx; tx = q .tx; done = q .done }
+setPages x q = record { pages = x; rx = q .rx; tx = q .tx; completion = q .completion }
 
 abbrev pub setRx : List ℕ → Pool → Pool
-setRx x q = record { pages = q .pages; rx = x; tx = q .tx; done = q .done }
+setRx x q = record { pages = q .pages; rx = x; tx = q .tx; completion = q .completion }
 
 abbrev pub setTx : List ℕ → Pool → Pool
-setTx x q = record { pages = q .pages; rx = q .rx; tx = x; done = q .done }
+setTx x q = record { pages = q .pages; rx = q .rx; tx = x; completion = q .completion }
 
-abbrev pub setDone : List ℕ → Pool → Pool
-setDone x q = record { pages = q .pages; rx = q .rx; tx = q .tx; done = x }
+abbrev pub setCompletion : List ℕ → Pool → Pool
+setCompletion x q = record { pages = q .pages; rx = q .rx; tx = q .tx; completion = x }
 
 -- a change of the registers, of the pool or of the memory, and of nothing else
 abbrev pub inRegisters : (Registers → Registers) → Chip → Chip

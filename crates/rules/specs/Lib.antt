@@ -5,6 +5,7 @@ pub mod Chip
 pub mod Fields
 pub mod Answers
 pub mod WellFormed
+pub mod Tests
 pub mod Packet
 pub mod Mmu
 pub mod Interrupts

@@ -1,13 +1,13 @@
 -- Document 01, "MMU commands".
-use mathlib.Core.Bool.{Bool, cond, _||_}
+use mathlib.Core.Bool.{Bool, cond, not, _||_}
 use mathlib.Core.List.{List, [], _∷_, _++_}
 use Prim.Native.Nat.{ℕ, _+_, _/_, _%_}
 use lib.Dec.{eqb, leb}
 use lib.ListN.{length, take, set}
 use Rattle.rules.specs.Lists.{member, firstEmpty}
-use Rattle.rules.specs.Chip.{Chip, size, pagesAt, free, allocated, emptyPool}
-use Rattle.rules.specs.Fields.{setResult, setPages, setRx, setTx, setDone, inRegisters, inPool}
-use Rattle.rules.specs.Answers.{Step, did, refuse}
+use Rattle.rules.specs.Chip.{Chip, size, free, allocated, emptyPool}
+use Rattle.rules.specs.Fields.{setResult, setPages, setRx, setTx, setCompletion, inRegisters, inPool}
+use Rattle.rules.specs.Answers.{Effect, did, refuse}
 
 pub data Command : Type 0 where
   nothing : Command
@@ -36,32 +36,32 @@ decode v =
 abbrev pub lowestNumber : Chip → ℕ
 lowestNumber c = firstEmpty (c .pool .pages)
 
--- the lowest unallocated number is given the n lowest free pages
-abbrev pub give : ℕ → Chip → Chip
-give n c = inPool (setPages (set (c .pool .pages) (lowestNumber c) (take n (free c)))) c
+-- the lowest unallocated number gets the n lowest free pages
+abbrev pub allot : ℕ → Chip → Chip
+allot n c = inPool (setPages (set (c .pool .pages) (lowestNumber c) (take n (free c)))) c
 
--- a packet's pages are given back; "bytes of freed pages stay"
+-- a packet's pages are given back: "Bytes of freed pages stay."
 abbrev pub giveBack : ℕ → Chip → Chip
 giveBack k c = inPool (setPages (set (c .pool .pages) k [])) c
 
--- an allocation that is granted
+-- an allocation that is granted: the result names the packet
 abbrev pub grant : ℕ → Chip → Chip
-grant n c = inRegisters (setResult (lowestNumber c)) (give n c)
+grant n c = inRegisters (setResult (lowestNumber c)) (allot n c)
 
 -- refusal 6: the packet is in RX or TX
 abbrev pub queued : ℕ → Chip → Bool
 queued k c = member k (c .pool .rx) || member k (c .pool .tx)
 
 -- refusals 5 and 6, for the packet in the packet number register
-abbrev pub ifIdle : Chip → Step → Step
-ifIdle c s = cond (allocated (c .regs .packet) c) (cond (queued (c .regs .packet) c) (refuse 6 c) s) (refuse 5 c)
+abbrev pub ifIdle : Chip → Effect → Effect
+ifIdle c e = cond (not (allocated (c .regs .numbers .packet) c)) (refuse 5 c) (cond (queued (c .regs .numbers .packet) c) (refuse 6 c) e)
 
 -- refusal 7; else by the RX head and what stands behind it
-abbrev pub ifHead : Chip → List ℕ → (ℕ → List ℕ → Step) → Step
+abbrev pub ifHead : Chip → List ℕ → (ℕ → List ℕ → Effect) → Effect
 ifHead c [] f = refuse 7 c
 ifHead c (k ∷ ks) f = f k ks
 
-unfoldable pub perform : Command → Chip → Step
+unfoldable pub perform : Command → Chip → Effect
 -- 00h nothing
 perform nothing c = did c
 -- 20h to 27h allocate 1 to 8 pages: done exactly when that many are free, else the result reads 80h
@@ -73,14 +73,14 @@ perform removeRx c = ifHead c (c .pool .rx) (λ k ks. did (inPool (setRx ks) c))
 -- 80h removes the RX head and releases it
 perform removeAndRelease c = ifHead c (c .pool .rx) (λ k ks. did (giveBack k (inPool (setRx ks) c)))
 -- A0h releases the packet in the packet number register
-perform release c = ifIdle c (did (giveBack (c .regs .packet) c))
+perform release c = ifIdle c (did (giveBack (c .regs .numbers .packet) c))
 -- C0h appends it to TX
-perform enqueue c = ifIdle c (did (inPool (setTx (c .pool .tx ++ (c .regs .packet ∷ []))) c))
+perform enqueue c = ifIdle c (did (inPool (setTx (c .pool .tx ++ (c .regs .numbers .packet ∷ []))) c))
 -- E0h empties TX and completion, frees nothing
-perform resetTx c = did (inPool (λ q. setDone [] (setTx [] q)) c)
+perform resetTx c = did (inPool (λ q. setCompletion [] (setTx [] q)) c)
 -- other values: 4
 perform unknown c = refuse 4 c
 
 -- a write of v to the MMU command register
-abbrev pub command : ℕ → Chip → Step
+abbrev pub command : ℕ → Chip → Effect
 command v c = perform (decode v) c

@@ -2,15 +2,14 @@
 use mathlib.Core.Bool.{Bool, true, false, cond, not, _&&_, _||_}
 use mathlib.Core.List.{List, [], _∷_, _++_}
 use Prim.Native.Nat.{ℕ, _+_, _-_, _*_, _/_, _%_, _^_}
-use lib.Dec.{eqb, leb, ltb}
+use lib.Dec.{eqb, ltb}
 use lib.ListN.{length, getD, take}
 use Rattle.rules.specs.Bits.{bit, setBit, flag, lowByte, highByte}
-use Rattle.rules.specs.Lists.{firstEmpty}
 use Rattle.rules.specs.Chip.{Registers, Chip, free}
 use Rattle.rules.specs.Fields.{setRcr, setOverrun, setRx, inRegisters, inPool, inMemory}
-use Rattle.rules.specs.Answers.{Step, gives, refuse}
+use Rattle.rules.specs.Answers.{Effect, doneWith, refuse}
 use Rattle.rules.specs.Packet.{putBytes}
-use Rattle.rules.specs.Mmu.{lowestNumber, give}
+use Rattle.rules.specs.Mmu.{lowestNumber, allot}
 use Rattle.rules.specs.Crc.{hash}
 
 -- "Input: bytes with FCS, and two flags, bad CRC and alignment."
@@ -41,11 +40,11 @@ inTable table h = bit (h % 8) (getD table (h / 8) 0)
 
 -- "Accepted: RCR bit 1 (all); broadcast; group address with RCR bit 2, or with its table bit set; the station address."
 unfoldable pub accepted : Registers → List ℕ → Bool
-accepted r a = bit 1 (r .rcr) || broadcast a || (group a && (bit 2 (r .rcr) || inTable (r .table) (hash a))) || sameBytes a (r .station)
+accepted r a = bit 1 (r .receiving .rcr) || broadcast a || (group a && (bit 2 (r .receiving .rcr) || inTable (r .receiving .table) (hash a))) || sameBytes a (r .receiving .station)
 
 -- "n is the length, less 4 when RCR bit 9 is set."
 unfoldable pub dataLength : Registers → ℕ → ℕ
-dataLength r len = cond (bit 9 (r .rcr)) (len - 4) len
+dataLength r len = cond (bit 9 (r .receiving .rcr)) (len - 4) len
 
 -- "The count is n + 6 (even) or n + 5 (odd)."
 unfoldable pub countOf : ℕ → ℕ
@@ -82,11 +81,11 @@ dropped r f = (f .badCrc || f .alignment || ltb (length (f .bytes)) 64) && not (
 -- "The answer's value is the first that holds"; freePages is how many are free
 unfoldable pub judge : Registers → ℕ → Frame → Arrival
 judge r freePages f =
-    cond (not (bit 8 (r .rcr))) disabled
+    cond (not (bit 8 (r .receiving .rcr))) disabled
     (cond (not (accepted r (destination f))) notAccepted
     (cond (ltb 1532 (length (f .bytes))) tooLong
     (cond (dropped r f) bad
-    (cond (ltb freePages (needed r (length (f .bytes)) + r .reserved)) noRoom stored))))
+    (cond (ltb freePages (needed r (length (f .bytes)) + r .receiving .reserved)) noRoom stored))))
 
 -- "Status: 15 alignment, 14 broadcast, 13 bad CRC, 12 odd n, 11 frame with FCS over 1,518 bytes, 10 under 64; group but not broadcast: bit 0, hash in 6 to 1."
 unfoldable pub groupBits : List ℕ → ℕ
@@ -110,12 +109,13 @@ image f n =
 -- "Later bytes of the last page stay."
 abbrev pub stow : Frame → Chip → Chip
 stow f c =
-    inMemory (putBytes (image f (dataLength (c .regs) (length (f .bytes)))) 0 (take (needed (c .regs) (length (f .bytes))) (free c)))
-    (inPool (setRx (c .pool .rx ++ (lowestNumber c ∷ []))) (give (needed (c .regs) (length (f .bytes))) c))
+    let pages = needed (c .regs) (length (f .bytes)) in
+    inMemory (putBytes (image f (dataLength (c .regs) (length (f .bytes)))) 0 (take pages (free c)))
+    (inPool (setRx (c .pool .rx ++ (lowestNumber c ∷ []))) (allot pages c))
 
--- RX_ABORT set, and RX_OVRN with it
+-- RX_ABORT set
 abbrev pub abort : Registers → Registers
-abort r = setRcr (setBit 0 (r .rcr)) r
+abort r = setRcr (setBit 0 (r .receiving .rcr)) r
 
 unfoldable pub after : Arrival → Frame → Chip → Chip
 after stored f c = stow f c
@@ -129,5 +129,5 @@ abbrev pub verdict : Frame → Chip → Arrival
 verdict f c = judge (c .regs) (length (free c)) f
 
 -- "Under 18 bytes: refusal 11."
-unfoldable pub arrive : Frame → Chip → Step
-arrive f c = cond (ltb (length (f .bytes)) 18) (refuse 11 c) (gives (valueFor (verdict f c)) (after (verdict f c) f c))
+unfoldable pub arrive : Frame → Chip → Effect
+arrive f c = cond (ltb (length (f .bytes)) 18) (refuse 11 c) (doneWith (valueFor (verdict f c)) (after (verdict f c) f c))

@@ -7,21 +7,21 @@ use lib.ListN.{length, getD, replicate}
 use Rattle.rules.specs.Bits.{bit, clearBit, flag, lowByte, highByte, wordAt}
 use Rattle.rules.specs.Lists.{some?}
 use Rattle.rules.specs.Chip.{Registers, Chip, size, pagesAt}
-use Rattle.rules.specs.Fields.{setTcr, setEphsr, setEcr, setTxEmpty, setTx, setDone, inRegisters, inPool, inMemory}
+use Rattle.rules.specs.Fields.{setTcr, setEphsr, setEcr, setTxEmpty, setTx, setCompletion, inRegisters, inPool, inMemory}
 use Rattle.rules.specs.Answers.{Turn, refused, over}
 use Rattle.rules.specs.Packet.{getBytes, putBytes}
 use Rattle.rules.specs.Mmu.{giveBack}
 use Rattle.rules.specs.Receive.{broadcast, group}
 
--- "outcome (0 good, 1 sixteen collisions, 2 late collision, 3 lost carrier, 4 SQE missing, 5 underrun), collisions, deferral (0, 1 deferred, 2 excessive)"
+-- "outcome (0 good, 1 sixteen collisions, 2 late collision, 3 lost carrier, 4 SQE missing, 5 underrun)", "deferral (0, 1 deferred, 2 excessive)"
 pub record Send : Type 0 where
   pub outcome : ℕ
   pub collisions : ℕ
   pub deferral : ℕ
 
--- refusal 11; "collisions (16 with outcome 1, else 0 to 15)"
-unfoldable pub within : Send → Bool
-within s = leb (s .outcome) 5 && cond (eqb (s .outcome) 1) (eqb (s .collisions) 16) (leb (s .collisions) 15) && leb (s .deferral) 2
+-- what is outside is refusal 11; "collisions (16 with outcome 1, else 0 to 15)"
+unfoldable pub inLimits : Send → Bool
+inLimits s = leb (s .outcome) 5 && cond (eqb (s .outcome) 1) (eqb (s .collisions) 16) (leb (s .collisions) 15) && leb (s .deferral) 2
 
 -- refusal 13: the count "must be even, at least 12, within the pages"
 unfoldable pub usable : ℕ → ℕ → Bool
@@ -37,12 +37,13 @@ good tcr outcome = eqb outcome 0 || (eqb outcome 3 && not (bit 10 tcr && not (bi
 
 -- "Data: from 4, c − 5 bytes if bit 5 of the byte at c − 1 is set, else c − 6."
 unfoldable pub sendLength : ℕ → ℕ → ℕ
-sendLength count control = cond (bit 5 control) (count - 5) (count - 6)
+sendLength count last = cond (bit 5 last) (count - 5) (count - 6)
 
 -- "With TCR bit 7 shorter data is padded by zeros to 60."
 unfoldable pub padded : ℕ → List ℕ → List ℕ
 padded tcr bytes = cond (bit 7 tcr) (bytes ++ replicate (60 - length bytes) 0) bytes
 
+-- the byte at c − 1, the packet's control byte
 unfoldable pub controlByte : ℕ → List ℕ → List ℕ → ℕ
 controlByte count pages memory = getD (getBytes 1 (count - 1) pages memory) 0 0
 
@@ -88,9 +89,9 @@ nibbles [] = 0
 nibbles (x ∷ xs) = x + 16 * nibbles xs
 
 -- "any then at 15"
-unfoldable pub full : List ℕ → Bool
-full [] = false
-full (x ∷ xs) = eqb x 15 || full xs
+unfoldable pub anyAt15 : List ℕ → Bool
+anyAt15 [] = false
+anyAt15 (x ∷ xs) = eqb x 15 || anyAt15 xs
 
 unfoldable pub newEcr : Bool → Send → ℕ → ℕ
 newEcr isGood s ecr = nibbles (tally isGood s ecr)
@@ -98,31 +99,31 @@ newEcr isGood s ecr = nibbles (tally isGood s ecr)
 -- "EPHSR bits other than 12 become .."; "any then at 15 sets EPHSR bit 12"
 unfoldable pub newEphsr : Bool → Send → List ℕ → Registers → ℕ
 newEphsr isGood s address r =
-    outcomeBits isGood s + addressBits address + 2 ^ 12 * flag (bit 12 (r .ephsr) || full (tally isGood s (r .ecr)))
+    outcomeBits isGood s + addressBits address + 2 ^ 12 * flag (bit 12 (r .sending .ephsr) || anyAt15 (tally isGood s (r .sending .ecr)))
 
 -- "A failure clears TXENA."; "TX EMPTY is set if TX is now empty."
 abbrev pub sentRegisters : Bool → Send → List ℕ → Bool → Registers → Registers
 sentRegisters isGood s address emptied r =
-    setTcr (cond isGood (r .tcr) (clearBit 0 (r .tcr)))
-    (setEphsr (newEphsr isGood s address r) (setEcr (newEcr isGood s (r .ecr)) (setTxEmpty (r .txEmpty || emptied) r)))
+    setTcr (cond isGood (r .sending .tcr) (clearBit 0 (r .sending .tcr)))
+    (setEphsr (newEphsr isGood s address r) (setEcr (newEcr isGood s (r .sending .ecr)) (setTxEmpty (r .sending .txEmpty || emptied) r)))
 
 -- "Good with control bit 11: the packet is released. Else its number joins completion."
 unfoldable pub autoRelease : Bool → Registers → Bool
 autoRelease isGood r = isGood && bit 11 (r .control)
 
 abbrev pub retire : Bool → ℕ → Chip → Chip
-retire released k c = cond released (giveBack k c) (inPool (setDone (c .pool .done ++ (k ∷ []))) c)
+retire released k c = cond released (giveBack k c) (inPool (setCompletion (c .pool .completion ++ (k ∷ []))) c)
 
 -- "EPHSR is written to addresses 0 and 1."
 abbrev pub statusWritten : List ℕ → ℕ → Chip → Chip
 statusWritten pages e c = inMemory (putBytes (lowByte e ∷ highByte e ∷ []) 0 pages) c
 
 -- the head k of TX, with rest behind it, is sent
-unfoldable pub finish : Send → ℕ → List ℕ → Chip → List ℕ → Turn
-finish s k rest c out =
+unfoldable pub sendHead : Send → ℕ → List ℕ → Chip → List ℕ → Turn
+sendHead s k rest c out =
     let pages = pagesAt c k in
-    let isGood = good (c .regs .tcr) (s .outcome) in
-    let bytes = putOut (c .regs .tcr) (byteCount pages (c .memory)) pages (c .memory) in
+    let isGood = good (c .regs .sending .tcr) (s .outcome) in
+    let bytes = putOut (c .regs .sending .tcr) (byteCount pages (c .memory)) pages (c .memory) in
     let address = getBytes 6 4 pages (c .memory) in
     record {
       reply = record { number = 0; value = length bytes };
@@ -136,9 +137,9 @@ finish s k rest c out =
 -- refusal 13, then 14: "refusal 14 if full", where its number would join completion
 unfoldable pub ifSendable : Send → ℕ → List ℕ → Chip → List ℕ → Turn
 ifSendable s k rest c out =
-    cond (usable (byteCount (pagesAt c k) (c .memory)) (length (pagesAt c k)))
-    (cond (not (autoRelease (good (c .regs .tcr) (s .outcome)) (c .regs)) && leb (size c) (length (c .pool .done))) (refused 14 c out) (finish s k rest c out))
-    (refused 13 c out)
+    cond (not (usable (byteCount (pagesAt c k) (c .memory)) (length (pagesAt c k)))) (refused 13 c out)
+    (cond (not (autoRelease (good (c .regs .sending .tcr) (s .outcome)) (c .regs)) && leb (size c) (length (c .pool .completion))) (refused 14 c out)
+    (sendHead s k rest c out))
 
 -- "The TX head is sent": refusal 12 where TX is empty
 abbrev pub byTxHead : Send → List ℕ → Chip → List ℕ → Turn
@@ -146,7 +147,9 @@ byTxHead s [] c out = refused 12 c out
 byTxHead s (k ∷ ks) c out = ifSendable s k ks c out
 
 -- refusals 15, 11, 12, 13, 14, in this order
-unfoldable pub sendDone : Send → Chip → List ℕ → Turn
-sendDone s c out =
+unfoldable pub finish : Send → Chip → List ℕ → Turn
+finish s c out =
     cond (ltb (length out) 2048) (refused 15 c out)
-    (cond (within s) (cond (bit 0 (c .regs .tcr)) (byTxHead s (c .pool .tx) c out) (refused 12 c out)) (refused 11 c out))
+    (cond (not (inLimits s)) (refused 11 c out)
+    (cond (not (bit 0 (c .regs .sending .tcr))) (refused 12 c out)
+    (byTxHead s (c .pool .tx) c out)))

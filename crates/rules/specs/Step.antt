@@ -1,13 +1,13 @@
 -- One type of inputs, one step, and the history of a chip from power-up.
-use mathlib.Core.Bool.{cond}
+use mathlib.Core.Bool.{cond, not}
 use mathlib.Core.List.{List, [], _∷_}
 use Prim.Native.Nat.{ℕ}
 use Rattle.rules.specs.Chip.{Chip, powered}
 use Rattle.rules.specs.Answers.{Reply, Turn, refused, leaving}
-use Rattle.rules.specs.WellFormed.{fit}
+use Rattle.rules.specs.Tests.{fit}
 use Rattle.rules.specs.Registers.{Access, access}
 use Rattle.rules.specs.Receive.{Frame, arrive}
-use Rattle.rules.specs.Send.{Send, sendDone}
+use Rattle.rules.specs.Send.{Send, finish}
 
 pub data Input : Type 0 where
   driver : Access → Input
@@ -15,14 +15,14 @@ pub data Input : Type 0 where
   sent : Send → Input
 
 -- on a chip that is well formed
-unfoldable pub stepOn : Input → Chip → List ℕ → Turn
-stepOn (driver a) c out = leaving out (access a c)
-stepOn (frame f) c out = leaving out (arrive f c)
-stepOn (sent s) c out = sendDone s c out
+unfoldable pub serve : Input → Chip → List ℕ → Turn
+serve (driver a) c out = leaving out (access a c)
+serve (frame f) c out = leaving out (arrive f c)
+serve (sent s) c out = finish s c out
 
 -- on any chip: refusal 16 is first, whatever the input; n is the part's number of pages
 unfoldable pub stepOf : ℕ → Input → Chip → List ℕ → Turn
-stepOf n i c out = cond (fit n c) (stepOn i c out) (refused 16 c out)
+stepOf n i c out = cond (not (fit n c)) (refused 16 c out) (serve i c out)
 
 abbrev pub step : Input → Chip → List ℕ → Turn
 step = stepOf 24

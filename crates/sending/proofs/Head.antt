@@ -8,9 +8,9 @@ use lib.Dec.{leb}
 use lib.ListN.{length, getD}
 use Rattle.rules.specs.Bits.{bit}
 use Rattle.rules.specs.Lists.{member, some?}
-use Rattle.rules.specs.Send.{Send, within, usable}
+use Rattle.rules.specs.Send.{Send, inLimits, usable}
 use Rattle.lists.specs.Facts.{is-true, is-false, le-decides, _and_, member-first}
-use Rattle.laws.specs.Pool.{has-small}
+use Rattle.wellformed.specs.Pool.{has-small}
 use Rattle.store.specs.declared.Page.{Page}
 use Rattle.store.specs.Views.{used, pagesOf, entries}
 use Rattle.store.proofs.Facts.{entries-length}
@@ -56,6 +56,6 @@ usable-fits count pages u =
     (d .0 .1, d .1)
 
 -- An outcome within the limits is at most 5.
-pub within-few : (s : Send) → within s ≡ true → s .outcome ≤ 5
-unfolding within
+pub within-few : (s : Send) → inLimits s ≡ true → s .outcome ≤ 5
+unfolding inLimits
 within-few s w = (le-decides (s .outcome) 5 and is-true _ and is-true (leb (s .deferral) 2)) .sound w .0 .0

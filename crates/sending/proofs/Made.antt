@@ -9,7 +9,7 @@ use Rattle.rules.specs.Lists.{some?}
 use Rattle.rules.specs.Chip as rules
 use Rattle.rules.specs.Chip.{Chip}
 use Rattle.rules.specs.Fields.{setTx, inRegisters, inPool}
-use Rattle.rules.specs.Answers.{Turn, gives, refused}
+use Rattle.rules.specs.Answers.{Turn, doneWith, refused}
 use Rattle.rules.specs.Packet.{putBytes}
 use Rattle.rules.specs.Send.{Send, addressBits, newEphsr, sentRegisters, retire, statusWritten}
 use Rattle.store.specs.declared.Page.{Page}
@@ -26,8 +26,8 @@ same-view : (x r : Registers) (m : List (List Page)) {regs : rules.Registers} {t
     → registersOf x ≡ regs → x .rx ≡ r .rx → entries (x .tx) ≡ tx → x .done ≡ r .done → mem ≡ mem′
     → view x m mem ≡ record { regs = regs; pool = setTx tx (poolOf r m); memory = mem′ }
 same-view x r m {regs} {tx} {mem} a b c d e =
-    ap₂ (λ (i : rules.Registers) (q : Queue). record { regs = i; pool = record { pages = pagesOf m; rx = entries q; tx = entries (x .tx); done = entries (x .done) }; memory = mem }) a b
-    ∙ ap₂ (λ (l : List ℕ) (q : Queue). record { regs = regs; pool = record { pages = pagesOf m; rx = entries (r .rx); tx = l; done = entries q }; memory = mem }) c d
+    ap₂ (λ (i : rules.Registers) (q : Queue). record { regs = i; pool = record { pages = pagesOf m; rx = entries q; tx = entries (x .tx); completion = entries (x .done) }; memory = mem }) a b
+    ∙ ap₂ (λ (l : List ℕ) (q : Queue). record { regs = regs; pool = record { pages = pagesOf m; rx = entries (r .rx); tx = l; completion = entries q }; memory = mem }) c d
     ∙ ap (λ (l : List ℕ). record { regs = regs; pool = setTx tx (poolOf r m); memory = l }) e
 
 -- The registers after it, and the status word in memory.
@@ -38,12 +38,12 @@ module _ (good : Bool) (s : Send) (bits : ℕ) (r x : Registers) (m : List (List
   sent-view t e w =
       let n = t .registers address e in
       same-view x r m n (t .rx) (t .tx) (t .done)
-      (w ∙ ap (λ (y : rules.Registers). putBytes (lowByte (y .ephsr) ∷ highByte (y .ephsr) ∷ []) 0 pages mem) n)
+      (w ∙ ap (λ (y : rules.Registers). putBytes (lowByte (y .sending .ephsr) ∷ highByte (y .sending .ephsr) ∷ []) 0 pages mem) n)
 
 -- The packet is retired alike.
-pub same-retired : {v v′ k k′ : ℕ} {b b′ : Bool} {c c′ : Chip} → v ≡ v′ → b ≡ b′ → k ≡ k′ → c ≡ c′ → gives v (retire b k c) ≡ gives v′ (retire b′ k′ c′)
+pub same-retired : {v v′ k k′ : ℕ} {b b′ : Bool} {c c′ : Chip} → v ≡ v′ → b ≡ b′ → k ≡ k′ → c ≡ c′ → doneWith v (retire b k c) ≡ doneWith v′ (retire b′ k′ c′)
 same-retired {v′} {k} {b′} {c} p q x y =
-    ap₂ (λ (i : ℕ) (t : Bool). gives i (retire t k c)) p q ∙ ap₂ (λ (i : ℕ) (d : Chip). gives v′ (retire b′ i d)) x y
+    ap₂ (λ (i : ℕ) (t : Bool). doneWith i (retire t k c)) p q ∙ ap₂ (λ (i : ℕ) (d : Chip). doneWith v′ (retire b′ i d)) x y
 
 -- A refusal: nothing changes.
 module _ (r : Registers) (m : List (List Page)) (mem out : List ℕ) (t : Turn) where

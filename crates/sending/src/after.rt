@@ -10,7 +10,6 @@ ghost use mathlib.Core.Path.{_≡_};
 ghost use mathlib.Core.Bool.{_||_};
 ghost use Prim.Native.Nat.{_≤_, _<_};
 ghost use lib.Dec.{eqb};
-ghost use Rattle.rules.specs.Bits.{bit};
 ghost use Rattle.store.specs.Views.{SoundQueue};
 ghost use Rattle.sending.specs.Numbers.{sendOf};
 ghost use Rattle.sending.specs.Sends.{Sent};

@@ -10,7 +10,7 @@ ghost use mathlib.Core.List.{List};
 ghost use Prim.Native.Nat.{ℕ, _<_};
 ghost use lib.Dec.{leb};
 ghost use Rattle.rules.specs.Bits.{bit};
-ghost use Rattle.rules.specs.Answers.{gives};
+ghost use Rattle.rules.specs.Answers.{doneWith};
 ghost use Rattle.rules.specs.Send as rules;
 ghost use Rattle.store.specs.Views.{SoundMap};
 ghost use Rattle.state.specs.View.{view, SoundQueues, Makes};
@@ -44,7 +44,7 @@ pub fn retire(
     value: u16,
 ) -> Stepped
     requires { ⌜ (packet .0 < 24) × SoundMap map × SoundQueues (r .rx) (r .tx) (r .done) × (released ≡ false → r .done .count < 24) ⌝ }
-    ensures { λ x. ⌜ ((mem : List ℕ) → Makes (gives value (rules.retire released (packet .0) (view r map mem))) mem x) ⌝ }
+    ensures { λ x. ⌜ ((mem : List ℕ) → Makes (doneWith value (rules.retire released (packet .0) (view r map mem))) mem x) ⌝ }
 {
     if released {
         return state::make_stepped(Answer::Done(value), r, store::released(map, packet));

@@ -1,12 +1,12 @@
 // How a send ended: is the input within its limits, and was the send good?
 use crate::Send;
 ghost use mathlib.Core.Path.{_≡_};
-ghost use Rattle.rules.specs.Send.{within, good};
+ghost use Rattle.rules.specs.Send.{inLimits, good};
 ghost use Rattle.sending.specs.Numbers.{sendOf};
 
 // Refusal 11 where not. Sixteen collisions are the outcome 1, and no other.
 pub fn is_within(s: Send) -> bool
-    ensures { λ r. ⌜ r ≡ within (sendOf s) ⌝ }
+    ensures { λ r. ⌜ r ≡ inLimits (sendOf s) ⌝ }
 {
     if s.outcome > 5 {
         return false;

@@ -64,7 +64,7 @@ pub fn finished(
     deferral: u8,
 ) -> Stepped
     requires { ⌜ Ready r map × (length (now memory) ≡ 6144) ⌝ }
-    ensures { λ x. ⌜ Sends (rules.sendDone (record { outcome = outcome; collisions = collisions; deferral = deferral }) (view r map (now (memory .entry))) (now (out .entry))) (now (memory .exit)) (now (out .exit)) x ⌝ }
+    ensures { λ x. ⌜ Sends (rules.finish (record { outcome = outcome; collisions = collisions; deferral = deferral }) (view r map (now (memory .entry))) (now (out .entry))) (now (memory .exit)) (now (out .exit)) x ⌝ }
 {
     if out.len() < 2048 {
         return state::make_stepped(Answer::ShortOutput, r, map);

@@ -52,7 +52,7 @@ pub fn new_ecr(t: Tally) -> u16
 
 // Is any at 15?
 pub fn any_full(t: Tally) -> bool
-    ensures { λ r. ⌜ r ≡ rules.full (tallyOf t) ⌝ }
+    ensures { λ r. ⌜ r ≡ rules.anyAt15 (tallyOf t) ⌝ }
 {
     if t.single == 15 {
         return true;

@@ -5,7 +5,6 @@ use Prim.Native.Nat.{ℕ, suc, _+_, _≤_, _<_}
 use native.Mathlib.Omega.{arith}
 use lib.ListN.{length, take, drop, getD, length-append}
 use lib.Seq.{length-take-le, take-at, drop-cons}
-use Rattle.rules.specs.Answers.{Reply}
 use Rattle.rules.specs.Bench.{Bench, Answered, answer, eventOf, line}
 use Rattle.lists.specs.Written.{Writes}
 use Rattle.store.specs.declared.Page.{Page}

@@ -1,17 +1,17 @@
 -- From what the chip's entries promise to one step of the bench.
-use mathlib.Core.Path.{_≡_, refl, ap, sym, subst, _∙_}
-use mathlib.Core.Bool.{Bool, true, false, cond}
+use mathlib.Core.Path.{_≡_, refl, sym, subst}
+use mathlib.Core.Bool.{Bool, true, false, cond, not}
 use mathlib.Core.List.{List, []}
 use Prim.Native.Nat.{ℕ, _≤_}
 use native.Mathlib.Omega.{arith}
-use lib.ListN.{length, take, drop}
+use lib.ListN.{take, drop}
 use Rattle.rules.specs.Chip.{Chip}
-use Rattle.rules.specs.Answers.{Turn, leaving, refused}
-use Rattle.rules.specs.WellFormed.{fit}
+use Rattle.rules.specs.Answers.{leaving, refused}
+use Rattle.rules.specs.Tests.{fit}
 use Rattle.rules.specs.Registers.{Access}
 use Rattle.rules.specs.Receive.{Frame}
 use Rattle.rules.specs.Send.{Send}
-use Rattle.rules.specs.Step.{Input, driver, frame, sent, stepOn, stepOf, step}
+use Rattle.rules.specs.Step.{Input, driver, frame, sent, serve, stepOf, step}
 use Rattle.rules.specs.Bench as rules
 use Rattle.store.specs.declared.Page.{Page}
 use Rattle.state.specs.declared.Registers.{Registers}
@@ -19,28 +19,29 @@ use Rattle.state.specs.declared.Stepped.{Stepped}
 use Rattle.state.specs.declared.Touched.{Touched}
 use Rattle.state.specs.declared.Answer.{Answer}
 use Rattle.state.specs.declared.Answer.the-variants.{CutShort}
-use Rattle.state.specs.View.{view, replyOf}
-use Rattle.state.specs.Promise.{InOrder, Right}
+use Rattle.state.specs.View.{view}
+use Rattle.state.specs.Promise.{Right}
 use Rattle.records.specs.Gathers.{holding}
 use Rattle.chip.specs.Entry.{besideMap}
 use Rattle.serving.specs.Turns.{Held, Turns, Gathered}
 
 -- Accesses and frames do not look at the output buffer, and leave it.
-beside-output : (i : Input) (c : Chip) (out : List ℕ) → ((o : List ℕ) → stepOn i c o ≡ leaving o (record { reply = stepOn i c [] .reply; chip = stepOn i c [] .chip }))
+beside-output : (i : Input) (c : Chip) (out : List ℕ) → ((o : List ℕ) → serve i c o ≡ leaving o (record { reply = serve i c [] .reply; chip = serve i c [] .chip }))
     → step i c out ≡ leaving out (record { reply = step i c [] .reply; chip = step i c [] .chip })
 unfolding stepOf
 beside-output i c out h = go (fit 24 c)
   where
-    go : (b : Bool) → cond b (stepOn i c out) (refused 16 c out) ≡ leaving out (record { reply = cond b (stepOn i c []) (refused 16 c []) .reply; chip = cond b (stepOn i c []) (refused 16 c []) .chip })
+    go : (b : Bool) → cond (not b) (refused 16 c out) (serve i c out)
+        ≡ leaving out (record { reply = cond (not b) (refused 16 c []) (serve i c []) .reply; chip = cond (not b) (refused 16 c []) (serve i c []) .chip })
     go true = h out
     go false = refl
 
 access-beside : (a : Access) (c : Chip) (out : List ℕ) → step (driver a) c out ≡ leaving out (record { reply = step (driver a) c [] .reply; chip = step (driver a) c [] .chip })
-unfolding stepOn
+unfolding serve
 access-beside a c out = beside-output (driver a) c out (λ o. refl)
 
 frame-beside : (f : Frame) (c : Chip) (out : List ℕ) → step (frame f) c out ≡ leaving out (record { reply = step (frame f) c [] .reply; chip = step (frame f) c [] .chip })
-unfolding stepOn
+unfolding serve
 frame-beside f c out = beside-output (frame f) c out (λ o. refl)
 
 module _ (r : Registers) (m : List (List Page)) (mem wire : List ℕ) (have : ℕ) (out : List ℕ) (h : Held r m mem wire have) where
@@ -49,7 +50,7 @@ module _ (r : Registers) (m : List (List Page)) (mem wire : List ℕ) (have : �
 
   -- a step of the chip, after which so many wire bytes are held
   stepping : (i : Input) (left : ℕ) (x : Stepped) (mem′ out′ : List ℕ) → left ≤ 2048 → Right (step i (view r m mem) out) x mem′ out′
-      → Turns (rules.stepped i (take left wire) (holding (view r m mem) (take have wire) out)) x mem′ wire left out′
+      → Turns (rules.asStep i (take left wire) (holding (view r m mem) (take have wire) out)) x mem′ wire left out′
   stepping i left x mem′ out′ few p = record {
     reply = p .reply;
     bench = λ j. holding (p .chip j) (take left wire) (p .output j);

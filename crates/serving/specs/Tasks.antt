@@ -4,7 +4,7 @@ use mathlib.Core.List.{List}
 use Prim.Native.Nat.{ℕ}
 use lib.ListN.{drop}
 use Rattle.rules.specs.Chip.{Chip}
-use Rattle.rules.specs.Answers.{Step}
+use Rattle.rules.specs.Answers.{Effect}
 use Rattle.rules.specs.Registers as registers
 use Rattle.rules.specs.Bench.{Event, access, wire, frameEnds, send, unknown}
 use Rattle.registers.specs.Meaning.{widthOf}
@@ -17,10 +17,10 @@ use Rattle.serving.specs.declared.task.Task.{Task}
 use Rattle.serving.specs.declared.task.Task.the-variants as task
 
 -- the event is an access that comes to the step f
-pub record Comes (f : Chip → Step) (bank : ℕ) (e : Event) : Type 0 where
+pub record Comes (f : Chip → Effect) (bank : ℕ) (e : Event) : Type 0 where
   pub asked : registers.Access
   pub told : e ≡ access asked
-  pub does : (c : Chip) → c .regs .bank ≡ bank → registers.access asked c ≡ f c
+  pub does : (c : Chip) → c .regs .numbers .bank ≡ bank → registers.access asked c ≡ f c
 
 abbrev pub StillMeans : StillTask → List ℕ → ℕ → Event → Type 0
 StillMeans (still.Read w o) bytes bank e = e ≡ access (registers.read (widthOf w) o)

@@ -1,5 +1,5 @@
 -- There is only one result: a canonical record is known from its view, and an answer from its reply, so two results that meet a public promise are equal.
-use mathlib.Core.Path.{_≡_, refl, ap, ap₂, sym, _∙_}
+use mathlib.Core.Path.{_≡_, refl, ap, sym, _∙_}
 use mathlib.Core.Bool.{Bool, true, false, true≢false}
 use mathlib.Core.List.{List, [], _∷_}
 use Prim.Native.Nat.{ℕ}
@@ -15,8 +15,8 @@ use Rattle.state.specs.declared.Registers.{Registers}
 use Rattle.state.specs.declared.Stepped.{Stepped}
 use Rattle.state.specs.declared.Answer.{Answer}
 use Rattle.state.specs.declared.Answer.the-variants.{Done, Misplaced, NotModelled, ReadOnly, Reserved, NotAllocated, StillQueued, RxEmpty, AgainstRead, OddPointer, PastPages, OutsideLimits, NothingToSend, BadCount, CompletionFull, ShortOutput, Damaged, CutShort}
-use Rattle.state.specs.View.{view, replyOf, SoundQueues, Ready}
-use Rattle.state.specs.Promise.{InOrder, Right, Broken, Answers}
+use Rattle.state.specs.View.{view, replyOf, SoundQueues}
+use Rattle.state.specs.Promise.{InOrder, Right, Answers}
 
 -- queues, by their entries; maps, by their page lists
 same-queue : (q r : Queue) → SoundQueue q → SoundQueue r → entries q ≡ entries r → q ≡ r
@@ -33,23 +33,23 @@ module _ (r s : Registers) (m n : List (List Page)) (a b : List ℕ) (e : view r
   same-registers p q =
       let rx = same-queue (r .rx) (s .rx) (p .rx) (q .rx) (of (λ c. c .pool .rx)) in
       let tx = same-queue (r .tx) (s .tx) (p .tx) (q .tx) (of (λ c. c .pool .tx)) in
-      let done = same-queue (r .done) (s .done) (p .done) (q .done) (of (λ c. c .pool .done)) in
+      let done = same-queue (r .done) (s .done) (p .done) (q .done) (of (λ c. c .pool .completion)) in
       λ i. record {
-        tcr = of (λ c. c .regs .tcr) i;
-        ephsr = of (λ c. c .regs .ephsr) i;
-        rcr = of (λ c. c .regs .rcr) i;
-        ecr = of (λ c. c .regs .ecr) i;
-        reserved = of (λ c. c .regs .reserved) i;
-        station = of (λ c. c .regs .station) i;
+        tcr = of (λ c. c .regs .sending .tcr) i;
+        ephsr = of (λ c. c .regs .sending .ephsr) i;
+        rcr = of (λ c. c .regs .receiving .rcr) i;
+        ecr = of (λ c. c .regs .sending .ecr) i;
+        reserved = of (λ c. c .regs .receiving .reserved) i;
+        station = of (λ c. c .regs .receiving .station) i;
         control = of (λ c. c .regs .control) i;
-        packet = of (λ c. c .regs .packet) i;
-        result = of (λ c. c .regs .result) i;
+        packet = of (λ c. c .regs .numbers .packet) i;
+        result = of (λ c. c .regs .numbers .result) i;
         pointer = of (λ c. c .regs .pointer) i;
         mask = of (λ c. c .regs .mask) i;
-        table = of (λ c. c .regs .table) i;
-        bank = of (λ c. c .regs .bank) i;
-        txempty = of (λ c. c .regs .txEmpty) i;
-        overrun = of (λ c. c .regs .overrun) i;
+        table = of (λ c. c .regs .receiving .table) i;
+        bank = of (λ c. c .regs .numbers .bank) i;
+        txempty = of (λ c. c .regs .sending .txEmpty) i;
+        overrun = of (λ c. c .regs .receiving .overrun) i;
         rx = rx i;
         tx = tx i;
         done = done i;

@@ -4,7 +4,7 @@ use mathlib.Core.List.{List, []}
 use Prim.Native.Nat.{ℕ}
 use Rattle.rules.specs.Chip as rules
 use Rattle.rules.specs.Chip.{Chip, Pool}
-use Rattle.rules.specs.Answers.{Reply, Step}
+use Rattle.rules.specs.Answers.{Reply, Effect}
 use Rattle.rules.specs.WellFormed.{WellFormed}
 use Rattle.store.specs.declared.Page.{Page}
 use Rattle.store.specs.declared.Queue.{Queue}
@@ -17,25 +17,16 @@ use Rattle.state.specs.declared.Answer.the-variants.{Done, Misplaced, No
 
 abbrev pub registersOf : Registers → rules.Registers
 registersOf r = record {
-  tcr = r .tcr;
-  ephsr = r .ephsr;
-  rcr = r .rcr;
-  ecr = r .ecr;
-  reserved = r .reserved;
-  station = r .station;
-  control = r .control;
-  packet = r .packet;
-  result = r .result;
+  sending = record { tcr = r .tcr; ephsr = r .ephsr; ecr = r .ecr; txEmpty = r .txempty };
+  receiving = record { rcr = r .rcr; reserved = r .reserved; station = r .station; table = r .table; overrun = r .overrun };
+  numbers = record { bank = r .bank; packet = r .packet; result = r .result };
   pointer = r .pointer;
+  control = r .control;
   mask = r .mask;
-  table = r .table;
-  bank = r .bank;
-  txEmpty = r .txempty;
-  overrun = r .overrun;
 }
 
 abbrev pub poolOf : Registers → List (List Page) → Pool
-poolOf r m = record { pages = pagesOf m; rx = entries (r .rx); tx = entries (r .tx); done = entries (r .done) }
+poolOf r m = record { pages = pagesOf m; rx = entries (r .rx); tx = entries (r .tx); completion = entries (r .done) }
 
 -- registers, page map and memory
 abbrev pub view : Registers → List (List Page) → List ℕ → Chip
@@ -78,14 +69,14 @@ pub record Ready (r : Registers) (m : List (List Page)) : Type 0 where
   pub well : WellFormed (view r m [])
 
 -- what is returned, with the memory then, is what the rules say, and canonical
-pub record Makes (s : Step) (mem : List ℕ) (x : Stepped) : Type 0 where
+pub record Makes (s : Effect) (mem : List ℕ) (x : Stepped) : Type 0 where
   pub chip : view (x .registers) (x .pages) mem ≡ s .chip
   pub reply : replyOf (x .answer) ≡ s .reply
   pub queues : SoundQueues (x .registers .rx) (x .registers .tx) (x .registers .done)
   pub map : SoundMap (x .pages)
 
 -- the same of a step that leaves the page map
-pub record Touches (s : Step) (m : List (List Page)) (mem : List ℕ) (x : Touched) : Type 0 where
+pub record Touches (s : Effect) (m : List (List Page)) (mem : List ℕ) (x : Touched) : Type 0 where
   pub chip : view (x .registers) m mem ≡ s .chip
   pub reply : replyOf (x .answer) ≡ s .reply
   pub queues : SoundQueues (x .registers .rx) (x .registers .tx) (x .registers .done)

@@ -4,7 +4,7 @@ use mathlib.Core.Logic.{⊎-elim}
 use mathlib.Core.List.{List}
 use Prim.Native.Nat.{ℕ, _-_, _≤_}
 use Rattle.rules.specs.Chip.{Chip}
-use Rattle.rules.specs.Answers.{Step}
+use Rattle.rules.specs.Answers.{Effect}
 use Rattle.store.specs.declared.Page.{Page}
 use Rattle.state.specs.declared.Registers.{Registers}
 use Rattle.state.specs.View.{view}
@@ -19,7 +19,7 @@ order-as : {r q : Registers} {m n : List (List Page)} {mem l : List ℕ} → mem
 order-as e f g h = rw (e, f, g) h
 
 -- The step of a write is that of the arm's.
-step-told : {w k : Write} (c : Chip) {s : Step} → s ≡ stepOf w c → w ≡ k → s ≡ stepOf k c
+step-told : {w k : Write} (c : Chip) {s : Effect} → s ≡ stepOf w c → w ≡ k → s ≡ stepOf k c
 step-told c p e = p ∙ ap (λ (j : Write). stepOf j c) e
 
 abbrev Inv-loop : tie.InvT-loop
@@ -35,7 +35,7 @@ read-requires : tie.Need-read-requires Inv-loop μ-loop
 read-requires c κs = c .before .before .before .before .before .before .before .loop .inv .1
 
 write-of-requires : tie.Need-write-of-requires Inv-loop μ-loop
-write-of-requires c κs = c .before .before .before .before .before .before .before .loop .inv .1 .ready .well .bankSmall
+write-of-requires c κs = c .before .before .before .before .before .before .before .loop .inv .1 .ready .well .numbers .bankSmall
 
 write-still-requires : tie.Need-write-still-requires Inv-loop μ-loop
 write-still-requires c κs =

@@ -1,7 +1,7 @@
 use borrow.Author.Needs.{needs}
 use mathlib.Core.Path.{_≡_, ap, sym, subst, _∙_}
 use Rattle.rules.specs.Mmu.{Command, decode}
-use Rattle.laws.specs.Keeps.{Valid, decode-valid}
+use Rattle.wellformed.specs.Keeps.{Valid, decode-valid}
 use Rattle.state.specs.declared.Stepped.{Stepped}
 use Rattle.commands.specs.declared.Order.{Order}
 use Rattle.commands.specs.Orders.{commandOf, Performs}

@@ -7,7 +7,7 @@ use lib.ListN.{length, set, take}
 use Rattle.rules.specs.Lists.{freeBelow, firstEmpty}
 use Rattle.rules.specs.Fields.{setResult, setPages, inRegisters, inPool}
 use Rattle.rules.specs.Mmu as rules
-use Rattle.laws.specs.Pool.{number-free}
+use Rattle.wellformed.specs.Pool.{number-free}
 use Rattle.store.specs.Views.{pagesOf}
 use Rattle.state.specs.View.{view}
 use Rattle.commands.proofs.Steps.{allocates, allocates-none}

@@ -23,7 +23,7 @@ returns c =
     let none : pagesOf (c .before .cleared .result) ≡ replicate (length (pagesOf (s .args .map))) [] = n .0 ∙ ap (λ (k : ℕ). replicate {A = List ℕ} k []) (sym (s .pre .well .count)) in
     performs rules.reset (s .args .r) (s .args .map) (λ x. inRegisters (setResult 0x80) (inPool (λ q. emptyPool (size x)) x)) _ _ _
     (λ mem. refl)
-    (λ mem. ap₂ (λ (l : List ℕ) (p : List (List ℕ)). inRegisters (setResult 0x80) (inPool (λ q. record { pages = p; rx = l; tx = l; done = l }) (v mem))) (e .0) none)
+    (λ mem. ap₂ (λ (l : List ℕ) (p : List (List ℕ)). inRegisters (setResult 0x80) (inPool (λ q. record { pages = p; rx = l; tx = l; completion = l }) (v mem))) (e .0) none)
     (record { rx = e .1; tx = e .1; done = e .1 }) (n .1) (c .make-stepped .ensures)
 
 pub do-reset-spec : {M : Type 1} → statement M

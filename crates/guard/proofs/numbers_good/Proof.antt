@@ -1,5 +1,5 @@
 use borrow.Author.Tests.{lt-ltb, le-ltb}
-use Rattle.rules.specs.WellFormed.{numbersGood}
+use Rattle.rules.specs.Tests.{numbersGood}
 use Rattle.guard.proofs.numbers_good.Statement.{statement}
 use Rattle.guard.proofs.numbers_good.Tie as tie
 

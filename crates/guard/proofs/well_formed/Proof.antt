@@ -6,7 +6,7 @@ use Rattle.store.specs.Views.{pagesOf}
 use Rattle.store.proofs.Facts.{pages-length}
 use Rattle.state.specs.View.{SoundQueues}
 use Rattle.lists.specs.Facts.{refutes, agrees, as-true}
-use Rattle.guard.proofs.Parts.{parts, whole}
+use Rattle.wellformed.specs.Fit.{pages-decides, numbers-decides, queues-decides}
 use Rattle.guard.proofs.well_formed.Statement.{statement}
 use Rattle.guard.proofs.well_formed.Tie as tie
 
@@ -23,11 +23,11 @@ returns-2 c =
 
 returns-3 : tie.Need-returns-3
 returns-3 c =
-    refutes (as-true (c .before .pages-good .ensures)) (λ w. parts w .pages) (not-true _ (c .if3 .taken))
+    refutes (as-true (c .before .pages-good .ensures)) (λ w. pages-decides 24 _ .complete (w .well .pages)) (not-true _ (c .if3 .taken))
 
 returns-4 : tie.Need-returns-4
 returns-4 c =
-    refutes (as-true (c .before .numbers-good .ensures)) (λ w. parts w .numbers) (not-true _ (c .if4 .taken))
+    refutes (as-true (c .before .numbers-good .ensures)) (λ w. numbers-decides 24 _ .complete (w .well .numbers)) (not-true _ (c .if4 .taken))
 
 -- the queues are sound where the first test was passed
 sound : (b : tie.Else1) → let r = b .before .before .before .before .before .args .r in SoundQueues (r .rx) (r .tx) (r .done)
@@ -47,13 +47,14 @@ returns-5 c =
     (λ t. record {
       queues = sound b;
       map = m .before .rows-sound .ensures .sound (not-false _ (m .if2 .left));
-      well = whole (s .args .r) (s .args .map) (many s) (record {
-        pages = as-true (p .before .pages-good .ensures) .sound (not-false _ (p .if3 .left));
-        numbers = as-true (d .before .numbers-good .ensures) .sound (not-false _ (d .if4 .left));
-        queues = t;
-      });
+      well = record {
+        count = many s;
+        pages = pages-decides 24 _ .sound (as-true (p .before .pages-good .ensures) .sound (not-false _ (p .if3 .left)));
+        numbers = numbers-decides 24 _ .sound (as-true (d .before .numbers-good .ensures) .sound (not-false _ (d .if4 .left)));
+        queues = queues-decides 24 _ .sound t;
+      };
     })
-    (λ w. parts w .queues)
+    (λ w. queues-decides 24 _ .complete (w .well .queues))
 
 pub well-formed-spec : {M : Type 1} → statement M
 well-formed-spec =

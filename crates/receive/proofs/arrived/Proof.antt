@@ -4,7 +4,7 @@ use mathlib.Core.List.{List}
 use Prim.Native.Nat.{ℕ}
 use denote.Ref.{now}
 use Rattle.rules.specs.Chip.{Chip}
-use Rattle.rules.specs.Answers.{gives}
+use Rattle.rules.specs.Answers.{doneWith}
 use Rattle.rules.specs.Receive.{Frame, valueFor, after, arrive}
 use Rattle.state.specs.declared.Answer.the-variants.{Done, OutsideLimits}
 use Rattle.state.specs.declared.Stepped.{Stepped}
@@ -24,14 +24,14 @@ chip s = view (s .args .r) (s .args .map) (now (s .args .memory))
 
 -- the arrival is by the verdict at hand
 told : (j : tie.After-judged) (v : Verdict) {mem : List ℕ} {x : Stepped} → let s = j .before .before .before .before in
-    j .judged .result ≡ v → Makes (gives (valueFor (arrivalOf v)) (after (arrivalOf v) (the-frame s) (chip s))) mem x → Makes (arrive (the-frame s) (chip s)) mem x
+    j .judged .result ≡ v → Makes (doneWith (valueFor (arrivalOf v)) (after (arrivalOf v) (the-frame s) (chip s))) mem x → Makes (arrive (the-frame s) (chip s)) mem x
 told j v e t =
     let s = j .before .before .before .before in
     rw (goes (s .args .r) (s .args .map) (s .pre .0) (now (s .args .memory)) (the-frame s) (j .before .if1 .left) v (sym (ap arrivalOf e) ∙ j .judged .ensures)) t
 
 -- the answer is all that there is of it
 unchanged : (j : tie.After-judged) (v : Verdict) (k : ℕ) {x : Stepped} → let s = j .before .before .before .before in
-    j .judged .result ≡ v → gives (valueFor (arrivalOf v)) (after (arrivalOf v) (the-frame s) (chip s)) ≡ gives k (chip s)
+    j .judged .result ≡ v → doneWith (valueFor (arrivalOf v)) (after (arrivalOf v) (the-frame s) (chip s)) ≡ doneWith k (chip s)
     → x ≡ record { answer = Done k; registers = s .args .r; pages = s .args .map } → Makes (arrive (the-frame s) (chip s)) (now (s .args .memory)) x
 unchanged j v k e g h =
     let s = j .before .before .before .before in

@@ -20,7 +20,7 @@ returns c =
 register-at-requires : tie.Need-register-at-requires
 register-at-requires c κs =
     let s = c .before .before .before in
-    (s .pre .ready .well .bankSmall, placed-small (widthOf (s .args .width)) (s .args .offset) (sym (c .before .misplaced .ensures) ∙ c .if1 .left))
+    (s .pre .ready .well .numbers .bankSmall, placed-small (widthOf (s .args .width)) (s .args .offset) (sym (c .before .misplaced .ensures) ∙ c .if1 .left))
 
 returns-2 : tie.Need-returns-2
 returns-2 c =
@@ -29,7 +29,7 @@ returns-2 c =
     let v = view (s .args .r) (s .args .map) (s .args .memory .now) in
     let e = read-placed (widthOf (s .args .width)) (s .args .offset) v (sym (g .before .before .misplaced .ensures) ∙ g .before .if1 .left) in
     right-touched (s .args .r) (s .args .map) (s .args .memory .now) (s .pre) _ _ _
-    (touches-as (e ∙ sym (ap₂ (λ (k : rules.Register) (p : rules.Part). rules.readRegister k p v) (g .register-at .ensures .0) (c .before .part-at .ensures))) (c .read-reached .ensures))
+    (touches-as (e ∙ sym (ap₂ (λ (k : rules.Register) (p : rules.Lanes). rules.readRegister k p v) (g .register-at .ensures .0) (c .before .part-at .ensures))) (c .read-reached .ensures))
 
 pub read-spec : {M : Type 1} → statement M
 read-spec =

@@ -27,8 +27,8 @@ returns-2 c =
     record {
       does = λ d e.
           write-placed w o d v (sym (g .before .before .misplaced .ensures) ∙ g .before .if1 .left)
-          ∙ ap (λ (b : ℕ). rules.writeRegister (rules.registerAt b o) (rules.partAt w o) v d) e
-          ∙ sym (ap₂ (λ (k : rules.Register) (p : rules.Part). rules.writeRegister k p v d) (g .register-at .ensures .0) (c .before .part-at .ensures))
+          ∙ ap (λ (b : ℕ). rules.writeRegister (rules.registerAt b o) (rules.lanesAt w o) v d) e
+          ∙ sym (ap₂ (λ (k : rules.Register) (p : rules.Lanes). rules.writeRegister k p v d) (g .register-at .ensures .0) (c .before .part-at .ensures))
           ∙ c .write-reached .ensures .does d;
       known = c .write-reached .ensures .known;
     }

@@ -31,13 +31,13 @@ push-requires c κs =
 returns : tie.Need-returns
 returns c =
     let d = c .before .before .before in
-    refuses-5 rules.enqueue _ _ (λ x. did (inPool (setTx (x .pool .tx ++ (x .regs .packet ∷ []))) x)) enqueues _ (d .before .pre)
+    refuses-5 rules.enqueue _ _ (λ x. did (inPool (setTx (x .pool .tx ++ (x .regs .numbers .packet ∷ []))) x)) enqueues _ (d .before .pre)
     (c .before .enum-told .given .1) (d .register-idle .ensures) (c .make-stepped .ensures)
 
 returns-2 : tie.Need-returns-2
 returns-2 c =
     let d = c .before .before .before in
-    refuses-6 rules.enqueue _ _ (λ x. did (inPool (setTx (x .pool .tx ++ (x .regs .packet ∷ []))) x)) enqueues _ (d .before .pre)
+    refuses-6 rules.enqueue _ _ (λ x. did (inPool (setTx (x .pool .tx ++ (x .regs .numbers .packet ∷ []))) x)) enqueues _ (d .before .pre)
     (c .before .enum-told2 .given .1) (d .register-idle .ensures) (c .make-stepped2 .ensures)
 
 returns-3 : tie.Need-returns-3
@@ -47,7 +47,7 @@ returns-3 c =
     let v = view (s .args .r) (s .args .map) in
     let i = told (s .args .r) (s .args .map) (c .before .before .before .enum-told3 .given .1) (d .register-idle .ensures) in
     let e = c .before .push .ensures in
-    performs rules.enqueue (s .args .r) (s .args .map) (λ x. inPool (setTx (x .pool .tx ++ (x .regs .packet ∷ []))) x) _ _ _
+    performs rules.enqueue (s .args .r) (s .args .map) (λ x. inPool (setTx (x .pool .tx ++ (x .regs .numbers .packet ∷ []))) x) _ _ _
     (λ mem. enqueues (v mem) ∙ idle-done (v mem) _ (i .0) (i .1)) (λ mem. ap (λ (l : List ℕ). inPool (setTx l) (v mem)) (e .0))
     (record { rx = s .pre .queues .rx; tx = e .1; done = s .pre .queues .done }) (s .pre .map) (c .make-stepped3 .ensures)
 

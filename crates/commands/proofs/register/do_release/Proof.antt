@@ -20,13 +20,13 @@ released-requires c κs =
 returns : tie.Need-returns
 returns c =
     let d = c .before .before .before in
-    refuses-5 rules.release _ _ (λ x. did (rules.giveBack (x .regs .packet) x)) releases _ (d .before .pre)
+    refuses-5 rules.release _ _ (λ x. did (rules.giveBack (x .regs .numbers .packet) x)) releases _ (d .before .pre)
     (c .before .enum-told .given .1) (d .register-idle .ensures) (c .make-stepped .ensures)
 
 returns-2 : tie.Need-returns-2
 returns-2 c =
     let d = c .before .before .before in
-    refuses-6 rules.release _ _ (λ x. did (rules.giveBack (x .regs .packet) x)) releases _ (d .before .pre)
+    refuses-6 rules.release _ _ (λ x. did (rules.giveBack (x .regs .numbers .packet) x)) releases _ (d .before .pre)
     (c .before .enum-told2 .given .1) (d .register-idle .ensures) (c .make-stepped2 .ensures)
 
 returns-3 : tie.Need-returns-3
@@ -36,7 +36,7 @@ returns-3 c =
     let v = view (s .args .r) (s .args .map) in
     let i = told (s .args .r) (s .args .map) (c .before .before .enum-told3 .given .1) (d .register-idle .ensures) in
     let p = c .before .released .ensures in
-    performs rules.release (s .args .r) (s .args .map) (λ x. rules.giveBack (x .regs .packet) x) _ _ _
+    performs rules.release (s .args .r) (s .args .map) (λ x. rules.giveBack (x .regs .numbers .packet) x) _ _ _
     (λ mem. releases (v mem) ∙ idle-done (v mem) _ (i .0) (i .1)) (λ mem. ap (λ (ls : List (List ℕ)). inPool (setPages ls) (v mem)) (p .0))
     (s .pre .queues) (p .1) (c .make-stepped3 .ensures)
 

@@ -3,7 +3,7 @@ use mathlib.Core.Path.{_≡_, ap, sym, _∙_}
 use Prim.Native.Nat.{_≤_, _<_, _-_}
 use native.Mathlib.Omega.{arith}
 use lib.ListN.{length, drop, drop-of-length-le}
-use Rattle.rules.specs.WellFormed.{allBelow}
+use Rattle.rules.specs.Tests.{allBelow}
 use Rattle.store.specs.declared.Queue.{Queue}
 use Rattle.store.specs.Views.{entries}
 use Rattle.store.proofs.Facts.{entries-length}

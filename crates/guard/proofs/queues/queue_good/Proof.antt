@@ -6,7 +6,7 @@ use native.Mathlib.Omega.{arith}
 use borrow.Author.Tests.{not-true, not-false}
 use lib.ListN.{length, drop, getD, drop-of-length-le}
 use Rattle.rules.specs.Lists.{member, some?}
-use Rattle.rules.specs.WellFormed.{queueGood}
+use Rattle.rules.specs.Tests.{queueGood}
 use Rattle.store.specs.declared.Queue.{Queue}
 use Rattle.store.specs.Views.{pagesOf, entries}
 use Rattle.store.proofs.Facts.{entries-length}

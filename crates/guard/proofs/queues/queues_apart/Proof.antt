@@ -5,7 +5,7 @@ use Prim.Native.Nat.{ℕ, _≤_, _<_, _-_}
 use native.Mathlib.Omega.{arith}
 use lib.ListN.{length, drop, getD, drop-of-length-le}
 use Rattle.rules.specs.Lists.{member}
-use Rattle.rules.specs.WellFormed.{apart}
+use Rattle.rules.specs.Tests.{apart}
 use Rattle.store.specs.declared.Queue.{Queue}
 use Rattle.store.specs.Views.{entries}
 use Rattle.store.proofs.Facts.{entries-length}

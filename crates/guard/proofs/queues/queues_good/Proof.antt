@@ -5,7 +5,7 @@ use native.Mathlib.Omega.{arith}
 use borrow.Author.Tests.{not-true, not-false, le-leb}
 use lib.Dec.{leb}
 use lib.ListN.{length}
-use Rattle.rules.specs.WellFormed.{queueGood, queuesGood, apart}
+use Rattle.rules.specs.Tests.{queueGood, queuesGood, apart}
 use Rattle.store.specs.Views.{pagesOf, entries}
 use Rattle.store.proofs.Facts.{entries-length}
 use Rattle.guard.proofs.queues.queues_good.Statement.{statement}

@@ -5,7 +5,7 @@ use Prim.Native.Nat.{ℕ, _≤_, _<_, _-_, _+_}
 use native.Mathlib.Omega.{arith}
 use borrow.Author.Tests.{not-true, not-false}
 use lib.ListN.{length, drop, getD, drop-of-length-le}
-use Rattle.rules.specs.WellFormed.{noneOwned, pagesGood}
+use Rattle.rules.specs.Tests.{noneOwned, pagesGood}
 use Rattle.store.specs.declared.Page.{Page}
 use Rattle.store.specs.Views.{pagesOf}
 use Rattle.store.proofs.Facts.{pages-at, pages-length}

@@ -4,7 +4,7 @@ use mathlib.Core.List.{List}
 use Prim.Native.Nat.{ℕ, _≤_, _<_, _-_}
 use native.Mathlib.Omega.{arith}
 use lib.ListN.{length, drop, drop-of-length-le}
-use Rattle.rules.specs.WellFormed.{noneOwned}
+use Rattle.rules.specs.Tests.{noneOwned}
 use Rattle.store.specs.declared.Page.{Page}
 use Rattle.store.specs.Views.{used, pagesOf}
 use Rattle.store.proofs.Facts.{used-stop, used-on}

@@ -10,7 +10,7 @@ use lib.ListN.{length, take}
 use Rattle.rules.specs.Bits.{bit}
 use Rattle.rules.specs.Lists.{freeBelow}
 use Rattle.rules.specs.Receive.{stored, noRoom, accepted, dropped, pagesFor, needed, judge}
-use Rattle.laws.specs.Keeps.{data-short, count-high}
+use Rattle.wellformed.specs.Frames.{data-short, count-high}
 use Rattle.store.specs.Views.{pagesOf}
 use Rattle.state.specs.View.{registersOf}
 use Rattle.receive.specs.Arrivals.{frameOf, withRcr}

@@ -7,7 +7,7 @@ use denote.Ref.{now}
 use lib.ListN.{length, getD, set, take}
 use Rattle.rules.specs.Lists.{firstEmpty, freeBelow}
 use Rattle.rules.specs.Receive.{Frame, dataLength, needed}
-use Rattle.laws.specs.Keeps.{data-short}
+use Rattle.wellformed.specs.Frames.{data-short}
 use Rattle.store.specs.Views.{used, pagesOf, entries}
 use Rattle.store.proofs.Facts.{entries-length}
 use Rattle.state.specs.View.{registersOf}

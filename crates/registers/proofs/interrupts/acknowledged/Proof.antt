@@ -1,13 +1,5 @@
 -- Completion and the two latches, one by one.
 use borrow.Author.Needs.{needs}
-use mathlib.Core.Path.{ap, ap₂, _∙_}
-use mathlib.Core.Bool.{Bool, cond, not, _&&_}
-use mathlib.Core.List.{List}
-use Prim.Native.Nat.{ℕ}
-use lib.ListN.{drop}
-use Rattle.rules.specs.Bits.{bit}
-use Rattle.rules.specs.Fields.{setTxEmpty, setOverrun, setDone, inRegisters, inPool}
-use Rattle.state.specs.View.{view}
 use Rattle.registers.proofs.interrupts.acknowledged.Statement.{statement}
 use Rattle.registers.proofs.interrupts.acknowledged.Tie as tie
 

@@ -6,7 +6,7 @@ use Prim.Native.Nat.{ℕ}
 use lib.ListN.{length}
 use Rattle.rules.specs.Bits.{wordOf}
 use Rattle.rules.specs.Lists.{freeBelow}
-use Rattle.rules.specs.Answers.{gives}
+use Rattle.rules.specs.Answers.{doneWith}
 use Rattle.rules.specs.Registers.{taken, readRegister}
 use Rattle.store.specs.Views.{pagesOf}
 use Rattle.state.specs.declared.Touched.{Touched}
@@ -28,7 +28,7 @@ told s {t = t} e h = subst (λ (x : Place). Reads (placeOf x) (s .args .part) (s
 -- the word x, and no change
 shows : (s : tie.Start) (q : Place) {t : Touched} {w : ℕ} (x : ℕ) → s .args .place ≡ q
     → t ≡ record { answer = Done (taken (partOf (s .args .part)) w); registers = s .args .r } → w ≡ x
-    → ((mem : List ℕ) → readRegister (placeOf q) (partOf (s .args .part)) (view (s .args .r) (s .args .map) mem) ≡ gives (taken (partOf (s .args .part)) x) (view (s .args .r) (s .args .map) mem))
+    → ((mem : List ℕ) → readRegister (placeOf q) (partOf (s .args .part)) (view (s .args .r) (s .args .map) mem) ≡ doneWith (taken (partOf (s .args .part)) x) (view (s .args .r) (s .args .map) mem))
     → Reads (placeOf (s .args .place)) (s .args .part) (s .args .r) (s .args .map) t
 shows s q x e f g h =
     let r = s .args .r in
@@ -98,7 +98,7 @@ returns-11 c =
     let s = c .before .before .before .before .before in
     let r = s .args .r in
     shows s place.Interrupt _ (c .before .before .before .enum-told10 .given .1) (c .gives10 .ensures) (c .before .word3 .ensures)
-    (λ mem. ap (λ (x : ℕ). gives (taken (partOf (s .args .part)) (wordOf x (r .mask))) (view r (s .args .map) mem)) (sym (c .before .before .status .ensures (s .args .map) mem)))
+    (λ mem. ap (λ (x : ℕ). doneWith (taken (partOf (s .args .part)) (wordOf x (r .mask))) (view r (s .args .map) mem)) (sym (c .before .before .status .ensures (s .args .map) mem)))
 
 returns-12 : tie.Need-returns-12
 unfolding readRegister

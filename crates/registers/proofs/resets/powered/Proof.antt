@@ -5,7 +5,7 @@ use mathlib.Core.List.{List, []}
 use lib.ListN.{replicate}
 use Rattle.store.specs.declared.Page.{Page}
 use Rattle.store.specs.Views.{pagesOf}
-use Rattle.laws.specs.Theorems.{power-up-well}
+use Rattle.wellformed.specs.Keeps.{power-up-well}
 use Rattle.rules.specs.WellFormed.{WellFormed}
 use Rattle.state.specs.View.{view}
 use Rattle.rules.specs.Chip.{powerUp}

@@ -5,7 +5,7 @@ use mathlib.Core.Bool.{Bool, _||_}
 use Prim.Native.Nat.{ℕ, _+_, _*_, _^_}
 use lib.ListN.{drop}
 use Rattle.rules.specs.Bits.{bit, flag}
-use Rattle.rules.specs.Send.{outcomeBits, nibbles, full, newEcr, newEphsr}
+use Rattle.rules.specs.Send.{outcomeBits, nibbles, anyAt15, newEcr, newEphsr}
 use Rattle.store.specs.Views.{entries}
 use Rattle.state.specs.View.{registersOf}
 use Rattle.sending.specs.Numbers.{sendOf}
@@ -29,7 +29,7 @@ returns c =
     let l = k .tallied .ensures .0 in
     record {
       registers = λ a e. same-sent (registersOf r) (t .new-tcr .ensures)
-          (p .new-ephsr .ensures ∙ ap₂ (λ (x : ℕ) (b : Bool). outcomeBits g v + x + 2 ^ 12 * flag (bit 12 (r .ephsr) || b)) e (f .any-full .ensures ∙ ap full l))
+          (p .new-ephsr .ensures ∙ ap₂ (λ (x : ℕ) (b : Bool). outcomeBits g v + x + 2 ^ 12 * flag (bit 12 (r .ephsr) || b)) e (f .any-full .ensures ∙ ap anyAt15 l))
           (n .new-ecr .ensures ∙ ap nibbles l)
           (c .tx-empty .ensures ∙ ap (λ (b : Bool). r .txempty || b) (count-none (q .pop .result) (q .pop .ensures .1) (drop 1 (entries (r .tx))) (q .pop .ensures .0)));
       tx = q .pop .ensures .0;

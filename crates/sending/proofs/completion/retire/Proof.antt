@@ -3,7 +3,7 @@ use borrow.Author.Needs.{needs}
 use mathlib.Core.Path.{refl, ap}
 use mathlib.Core.List.{List}
 use Prim.Native.Nat.{ℕ}
-use Rattle.rules.specs.Fields.{setPages, setDone, inPool}
+use Rattle.rules.specs.Fields.{setPages, setCompletion, inPool}
 use Rattle.state.specs.View.{view}
 use Rattle.sending.proofs.completion.retire.Statement.{statement}
 use Rattle.sending.proofs.completion.retire.Tie as tie
@@ -29,7 +29,7 @@ returns-2 c =
     let s = c .before .before .before .before in
     let e = c .before .push .ensures in
     λ mem. rw (c .make-stepped2 .ensures, c .before .before .before .if1 .left) (record {
-      chip = ap (λ (l : List ℕ). inPool (setDone l) (view (s .args .r) (s .args .map) mem)) (e .0);
+      chip = ap (λ (l : List ℕ). inPool (setCompletion l) (view (s .args .r) (s .args .map) mem)) (e .0);
       reply = refl;
       queues = record { rx = s .pre .2 .rx; tx = s .pre .2 .tx; done = e .1 };
       map = s .pre .1;

@@ -8,7 +8,7 @@ use borrow.Author.Tests.{not-true, not-false}
 use Rattle.rules.specs.Bits.{bit}
 use Rattle.rules.specs.Chip.{Chip}
 use Rattle.rules.specs.Answers.{Turn, refused}
-use Rattle.rules.specs.Send.{Send, within, sendDone}
+use Rattle.rules.specs.Send.{Send, inLimits, finish}
 use Rattle.store.proofs.Facts.{entries-length}
 use Rattle.state.specs.declared.Stepped.{Stepped}
 use Rattle.state.specs.declared.Answer.{Answer}
@@ -31,12 +31,12 @@ abbrev chip : tie.Start → Chip
 chip s = view (s .args .r) (s .args .map) (s .args .memory .now)
 
 -- a refusal
-refusing : (s : tie.Start) (n : ℕ) (a : Answer) {x : Stepped} → sendDone (send s) (chip s) (s .args .out .now) ≡ refused n (chip s) (s .args .out .now) → replyOf a ≡ record { number = n; value = 0 }
-    → x ≡ record { answer = a; registers = s .args .r; pages = s .args .map } → Sends (sendDone (send s) (chip s) (s .args .out .now)) (s .args .memory .now) (s .args .out .now) x
+refusing : (s : tie.Start) (n : ℕ) (a : Answer) {x : Stepped} → finish (send s) (chip s) (s .args .out .now) ≡ refused n (chip s) (s .args .out .now) → replyOf a ≡ record { number = n; value = 0 }
+    → x ≡ record { answer = a; registers = s .args .r; pages = s .args .map } → Sends (finish (send s) (chip s) (s .args .out .now)) (s .args .memory .now) (s .args .out .now) x
 refusing s n a e p f = refuses (s .args .r) (s .args .map) (s .args .memory .now) (s .args .out .now) _ n a _ (s .pre .0) e p f
 
 -- the tests passed
-inside : (t : tie.Else2) → within (send (start (t .before .before))) ≡ true
+inside : (t : tie.Else2) → inLimits (send (start (t .before .before))) ≡ true
 inside t = sym (t .before .is-within .ensures) ∙ not-false (t .before .is-within .result) (t .if2 .left)
 
 enabled : (t : tie.Else3) → bit 0 (start (t .before .before .before .before) .args .r .tcr) ≡ true

@@ -10,7 +10,7 @@ use lib.Dec.{leb}
 use lib.ListN.{length, getD}
 use Rattle.rules.specs.Bits.{bit}
 use Rattle.rules.specs.Chip.{Chip, pagesAt}
-use Rattle.rules.specs.Answers.{Turn, Step}
+use Rattle.rules.specs.Answers.{Turn, Effect}
 use Rattle.rules.specs.Packet.{getBytes}
 use Rattle.rules.specs.Send.{usable, byteCount, good, autoRelease}
 use Rattle.lists.specs.Bytes.{value-word}
@@ -181,7 +181,7 @@ returns-3 c =
     subst (λ (z : Turn). Sends z mem (p .put-out .last .1 .1 .1 .1 .0) (c .retire .result))
     (sym (finishes (sendOf (s .args .s)) _ _ (chip s) (s .args .out .now) (pages o) _ (paged o) (counted (e .before .before .before)) (passed e) (sym (filled f) ∙ p .before .before .before .if2 .left)))
     (record {
-      step = subst (λ (z : Step). Makes z mem (c .retire .result)) (same-retired (p .put-out .ensures .value) (retired (f .before)) (o .before .head .ensures) made) (c .retire .ensures mem);
+      step = subst (λ (z : Effect). Makes z mem (c .retire .result)) (same-retired (p .put-out .ensures .value) (retired (f .before)) (o .before .head .ensures) made) (c .retire .ensures mem);
       output = p .put-out .ensures .output;
     })
 

@@ -2,26 +2,26 @@
 use mathlib.Core.Path.{sym}
 use mathlib.Core.Bool.{or-false}
 use borrow.Author.Tests.{eq-eqb, ne-eqb}
-use Rattle.rules.specs.Send.{full}
+use Rattle.rules.specs.Send.{anyAt15}
 use Rattle.sending.proofs.nibbles.any_full.Statement.{statement}
 use Rattle.sending.proofs.nibbles.any_full.Tie as tie
 
 returns : tie.Need-returns
-unfolding full
+unfolding anyAt15
 returns c = rw (eq-eqb _ 15 (c .if1 .taken))
 
 returns-2 : tie.Need-returns-2
-unfolding full
+unfolding anyAt15
 returns-2 c = rw (ne-eqb _ 15 (c .before .before .if1 .left), eq-eqb _ 15 (c .if2 .taken))
 
 returns-3 : tie.Need-returns-3
-unfolding full
+unfolding anyAt15
 returns-3 c =
     let a = c .before .before in
     rw (ne-eqb _ 15 (a .before .before .if1 .left), ne-eqb _ 15 (a .if2 .left), eq-eqb _ 15 (c .if3 .taken))
 
 returns-4 : tie.Need-returns-4
-unfolding full
+unfolding anyAt15
 returns-4 c =
     let b = c .before in
     let a = b .before .before in

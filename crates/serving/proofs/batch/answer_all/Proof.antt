@@ -63,7 +63,7 @@ add-at c =
 
 task-of-requires : tie.Need-task-of-requires Inv-loop μ-loop
 task-of-requires c κs =
-    c .before .before .loop .inv .3 .held .chip .ready .well .bankSmall
+    c .before .before .loop .inv .3 .held .chip .ready .well .numbers .bankSmall
 
 answer-still-requires : tie.Need-answer-still-requires Inv-loop μ-loop
 answer-still-requires c κs =

@@ -1,5 +1,4 @@
-use mathlib.Core.Path.{_≡_, refl, ap, subst, _∙_}
-use Rattle.rules.specs.Chip.{Chip}
+use mathlib.Core.Path.{refl, ap, subst, _∙_}
 use Rattle.chip.specs.declared.writes.Write.{Write}
 use Rattle.chip.specs.Writes.{stepOf, Known-write}
 use borrow.Author.Needs.{needs}

@@ -8,7 +8,7 @@ use native.Mathlib.Omega.{arith}
 use lib.ListN.{length, drop, getD, drop-of-length-le}
 use lib.Seq.{drop-cons}
 use Rattle.rules.specs.Lists.{freeBelow}
-use Rattle.laws.specs.Count.{total, free-and-total}
+use Rattle.wellformed.specs.Count.{total, free-and-total}
 use Rattle.store.specs.Views.{pagesOf}
 use Rattle.store.proofs.Facts.{pages-at, pages-length}
 use Rattle.store.proofs.map.free_count.Statement.{statement}

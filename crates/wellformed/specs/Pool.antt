@@ -1,7 +1,7 @@
 -- What keeps the pool well formed: pages given and given back, entries that join and leave a queue. For any size n.
 use mathlib.Core.Path.{_≡_, refl, ap, sym, subst, _∙_}
 use mathlib.Core.Bool.{true, false, true≢false}
-use mathlib.Core.Logic.{_⊎_, ⊎-elim}
+use mathlib.Core.Logic.{⊎-elim}
 use mathlib.Core.List.{List, [], _∷_, _++_}
 use Prim.Native.Nat.{ℕ, zero, suc, _≤_, _<_}
 use native.Mathlib.Omega.{arith}
@@ -10,13 +10,13 @@ use lib.Dec.{eqb}
 use lib.ListN.{length, getD, set, take, drop, replicate, length-append, length-drop, length-set, length-take, length-replicate}
 use lib.Seq.{getD-set-other}
 use Rattle.rules.specs.Lists.{member, some?, freeBelow, firstEmpty}
-use Rattle.rules.specs.Chip.{Pool, emptyPool}
-use Rattle.rules.specs.Fields.{setPages, setRx, setTx, setDone}
-use Rattle.rules.specs.WellFormed.{Distinct, GoodPages, GoodQueues, Formed}
-use Rattle.lists.specs.Facts.{if-not, or-left, or-right, member-cases, member-later, member-append, member-free, member-take}
-use Rattle.laws.specs.Count.{unallocated}
+use Rattle.rules.specs.Chip.{Numbers, Pool, emptyPool}
+use Rattle.rules.specs.Fields.{setPages, setRx, setTx, setCompletion}
+use Rattle.rules.specs.WellFormed.{Distinct, GoodPages, GoodQueues, GoodNumbers, Clauses}
+use Rattle.lists.specs.Facts.{if-not, or-left, or-right, nobody, member-cases, member-later, member-append, member-free, member-take}
+use Rattle.wellformed.specs.Count.{unallocated}
 use Rattle.lists.specs.Owned.{owned-in}
-use Rattle.laws.specs.Pages.{granted-ascend, first-empty, set-good}
+use Rattle.wellformed.specs.Pages.{granted-ascend, first-empty, set-good}
 
 -- An allocated number is in range.
 pub has-small : (ls : List (List ℕ)) (i : ℕ) → some? (getD ls i []) ≡ true → i < length ls
@@ -29,11 +29,7 @@ has-small (l ∷ ls) (suc i) f = omega (arith, has-small ls i f)
 absent : (l : List ℕ) (ls : List (List ℕ)) (k : ℕ) → ((j : ℕ) → member j l ≡ true → some? (getD ls j []) ≡ true) → some? (getD ls k []) ≡ false → member k l ≡ true → ⊥
 absent l ls k h e m = true≢false (sym (h k m) ∙ e)
 
--- An empty list has no member; a member of one entry is that entry.
-nobody : {A : Type 0} (j : ℕ) → member j [] ≡ true → A
-unfolding member
-nobody j m = absurd (true≢false (sym m))
-
+-- A member of one entry is that entry.
 only : (P : ℕ → Type 0) (j k : ℕ) → P k → member j (k ∷ []) ≡ true → P j
 only P j k p m = ⊎-elim (λ e. subst P (sym e) p) (nobody j) (member-cases j k [] m)
 
@@ -57,33 +53,33 @@ distinct-snoc (y ∷ ys) x d m = (
 )
 
 -- The queues beside page lists.
-module _ (n : ℕ) (ls : List (List ℕ)) (rx tx done : List ℕ) (q : GoodQueues n ls rx tx done) where
+module _ (n : ℕ) (ls : List (List ℕ)) (rx tx completion : List ℕ) (q : GoodQueues n ls rx tx completion) where
   -- RX and TX may change places.
-  turned : GoodQueues n ls tx rx done
+  turned : GoodQueues n ls tx rx completion
   turned = record {
     rxAllocated = q .txAllocated;
     txAllocated = q .rxAllocated;
     rxDistinct = q .txDistinct;
     txDistinct = q .rxDistinct;
     notBoth = λ k m. if-not (member k rx) (λ e. true≢false (sym m ∙ q .notBoth k e));
-    doneFew = q .doneFew;
-    doneNumbers = q .doneNumbers;
+    completionFew = q .completionFew;
+    completionNumbers = q .completionNumbers;
   }
 
   -- The pages of a packet that is in neither change.
-  touched : (k : ℕ) (l : List ℕ) → (member k rx ≡ true → ⊥) → (member k tx ≡ true → ⊥) → GoodQueues n (set ls k l) rx tx done
+  touched : (k : ℕ) (l : List ℕ) → (member k rx ≡ true → ⊥) → (member k tx ≡ true → ⊥) → GoodQueues n (set ls k l) rx tx completion
   touched k l r t = record {
     rxAllocated = λ j m. ap some? (getD-set-other ls k j l [] (λ e. r (sym (ap (λ (i : ℕ). member i rx) e) ∙ m))) ∙ q .rxAllocated j m;
     txAllocated = λ j m. ap some? (getD-set-other ls k j l [] (λ e. t (sym (ap (λ (i : ℕ). member i tx) e) ∙ m))) ∙ q .txAllocated j m;
     rxDistinct = q .rxDistinct;
     txDistinct = q .txDistinct;
     notBoth = q .notBoth;
-    doneFew = q .doneFew;
-    doneNumbers = q .doneNumbers;
+    completionFew = q .completionFew;
+    completionNumbers = q .completionNumbers;
   }
 
   -- The head of RX leaves.
-  popped : (k : ℕ) (ks : List ℕ) → rx ≡ k ∷ ks → GoodQueues n ls ks tx done
+  popped : (k : ℕ) (ks : List ℕ) → rx ≡ k ∷ ks → GoodQueues n ls ks tx completion
   popped k ks e =
       let d : Distinct (k ∷ ks) = rw e at (q .rxDistinct) in
       record {
@@ -92,20 +88,20 @@ module _ (n : ℕ) (ls : List (List ℕ)) (rx tx done : List ℕ) (q : GoodQueue
         rxDistinct = d .1;
         txDistinct = q .txDistinct;
         notBoth = λ j m. q .notBoth j (rw e (member-later j k ks m));
-        doneFew = q .doneFew;
-        doneNumbers = q .doneNumbers;
+        completionFew = q .completionFew;
+        completionNumbers = q .completionNumbers;
       }
 
   -- An allocated packet that is in neither joins RX.
-  joined : (k : ℕ) → some? (getD ls k []) ≡ true → member k rx ≡ false → member k tx ≡ false → GoodQueues n ls (rx ++ (k ∷ [])) tx done
+  joined : (k : ℕ) → some? (getD ls k []) ≡ true → member k rx ≡ false → member k tx ≡ false → GoodQueues n ls (rx ++ (k ∷ [])) tx completion
   joined k a r t = record {
     rxAllocated = λ j m. ⊎-elim (q .rxAllocated j) (λ e. only (λ i. some? (getD ls i []) ≡ true) j k a e) (member-append j rx (k ∷ []) m);
     txAllocated = q .txAllocated;
     rxDistinct = distinct-snoc rx k (q .rxDistinct) r;
     txDistinct = q .txDistinct;
     notBoth = λ j m. ⊎-elim (q .notBoth j) (only (λ i. member i tx ≡ false) j k t) (member-append j rx (k ∷ []) m);
-    doneFew = q .doneFew;
-    doneNumbers = q .doneNumbers;
+    completionFew = q .completionFew;
+    completionNumbers = q .completionNumbers;
   }
 
   -- Completion is another list in range.
@@ -116,12 +112,12 @@ module _ (n : ℕ) (ls : List (List ℕ)) (rx tx done : List ℕ) (q : GoodQueue
     rxDistinct = q .rxDistinct;
     txDistinct = q .txDistinct;
     notBoth = q .notBoth;
-    doneFew = a;
-    doneNumbers = b;
+    completionFew = a;
+    completionNumbers = b;
   }
 
   -- TX is emptied.
-  unsent : GoodQueues n ls rx [] done
+  unsent : GoodQueues n ls rx [] completion
   unfolding member
   unsent = record {
     rxAllocated = q .rxAllocated;
@@ -129,35 +125,26 @@ module _ (n : ℕ) (ls : List (List ℕ)) (rx tx done : List ℕ) (q : GoodQueue
     rxDistinct = q .rxDistinct;
     txDistinct = tt;
     notBoth = λ j m. refl;
-    doneFew = q .doneFew;
-    doneNumbers = q .doneNumbers;
+    completionFew = q .completionFew;
+    completionNumbers = q .completionNumbers;
   }
 
-module _ {n bank packet result : ℕ} {q : Pool} (w : Formed n bank packet result q) where
+module _ {n : ℕ} {r : Numbers} {q : Pool} (w : Clauses n r q) where
   -- Another pool beside the same registers.
   abbrev Good : Pool → Type 0
-  Good x = Formed n bank packet result x
+  Good x = Clauses n r x
 
   -- The queues are others.
-  requeued : (rx tx done : List ℕ) → GoodQueues n (q .pages) rx tx done → Good (record { pages = q .pages; rx = rx; tx = tx; done = done })
-  requeued rx tx done g = record {
-    count = w .count;
-    pages = w .pages;
-    bankSmall = w .bankSmall;
-    packetSmall = w .packetSmall;
-    resultGood = w .resultGood;
-    queues = g;
-  }
+  requeued : (rx tx completion : List ℕ) → GoodQueues n (q .pages) rx tx completion → Good (record { pages = q .pages; rx = rx; tx = tx; completion = completion })
+  requeued rx tx completion g = record { count = w .count; pages = w .pages; numbers = w .numbers; queues = g }
 
   -- The pages of a packet that is in neither queue become l, which ascends, is short, and has pages that no other packet has.
   repaged : (k : ℕ) (l : List ℕ) → k < n → (member k (q .rx) ≡ true → ⊥) → (member k (q .tx) ≡ true → ⊥) → GoodPages n (set (q .pages) k l) → Good (setPages (set (q .pages) k l) q)
   repaged k l h r t g = record {
     count = length-set (q .pages) k l ∙ w .count;
     pages = g;
-    bankSmall = w .bankSmall;
-    packetSmall = w .packetSmall;
-    resultGood = w .resultGood;
-    queues = touched n (q .pages) (q .rx) (q .tx) (q .done) (w .queues) k l r t;
+    numbers = w .numbers;
+    queues = touched n (q .pages) (q .rx) (q .tx) (q .completion) (w .queues) k l r t;
   }
 
   pub given-back : (k : ℕ) → k < n → (member k (q .rx) ≡ true → ⊥) → (member k (q .tx) ≡ true → ⊥) → Good (setPages (set (q .pages) k []) q)
@@ -191,40 +178,40 @@ module _ {n bank packet result : ℕ} {q : Pool} (w : Formed n bank packet resul
       (set-good ls k l (omega (arith, u, w .count)) n (w .pages) (granted-ascend m (length ls) ls) (simp length-take (omega (arith, b))) apart)
 
   pub rx-popped : (k : ℕ) (ks : List ℕ) → q .rx ≡ k ∷ ks → Good (setRx ks q)
-  rx-popped k ks e = requeued ks (q .tx) (q .done) (popped n (q .pages) (q .rx) (q .tx) (q .done) (w .queues) k ks e)
+  rx-popped k ks e = requeued ks (q .tx) (q .completion) (popped n (q .pages) (q .rx) (q .tx) (q .completion) (w .queues) k ks e)
 
   pub rx-joined : (k : ℕ) → some? (getD (q .pages) k []) ≡ true → member k (q .rx) ≡ false → member k (q .tx) ≡ false → Good (setRx (q .rx ++ (k ∷ [])) q)
-  rx-joined k a r t = requeued (q .rx ++ (k ∷ [])) (q .tx) (q .done) (joined n (q .pages) (q .rx) (q .tx) (q .done) (w .queues) k a r t)
+  rx-joined k a r t = requeued (q .rx ++ (k ∷ [])) (q .tx) (q .completion) (joined n (q .pages) (q .rx) (q .tx) (q .completion) (w .queues) k a r t)
 
-  other-way : GoodQueues n (q .pages) (q .tx) (q .rx) (q .done)
-  other-way = turned n (q .pages) (q .rx) (q .tx) (q .done) (w .queues)
+  other-way : GoodQueues n (q .pages) (q .tx) (q .rx) (q .completion)
+  other-way = turned n (q .pages) (q .rx) (q .tx) (q .completion) (w .queues)
 
   pub tx-popped : (k : ℕ) (ks : List ℕ) → q .tx ≡ k ∷ ks → Good (setTx ks q)
   tx-popped k ks e =
-      requeued (q .rx) ks (q .done) (turned n (q .pages) ks (q .rx) (q .done) (popped n (q .pages) (q .tx) (q .rx) (q .done) other-way k ks e))
+      requeued (q .rx) ks (q .completion) (turned n (q .pages) ks (q .rx) (q .completion) (popped n (q .pages) (q .tx) (q .rx) (q .completion) other-way k ks e))
 
   pub tx-joined : (k : ℕ) → some? (getD (q .pages) k []) ≡ true → member k (q .rx) ≡ false → member k (q .tx) ≡ false → Good (setTx (q .tx ++ (k ∷ [])) q)
   tx-joined k a r t =
-      requeued (q .rx) (q .tx ++ (k ∷ [])) (q .done) (turned n (q .pages) (q .tx ++ (k ∷ [])) (q .rx) (q .done) (joined n (q .pages) (q .tx) (q .rx) (q .done) other-way k a t r))
+      requeued (q .rx) (q .tx ++ (k ∷ [])) (q .completion) (turned n (q .pages) (q .tx ++ (k ∷ [])) (q .rx) (q .completion) (joined n (q .pages) (q .tx) (q .rx) (q .completion) other-way k a t r))
 
-  pub done-joined : (k : ℕ) → k < n → length (q .done) < n → Good (setDone (q .done ++ (k ∷ [])) q)
+  pub done-joined : (k : ℕ) → k < n → length (q .completion) < n → Good (setCompletion (q .completion ++ (k ∷ [])) q)
   done-joined k h f =
-      requeued (q .rx) (q .tx) (q .done ++ (k ∷ []))
-      (completed n (q .pages) (q .rx) (q .tx) (q .done) (w .queues) (q .done ++ (k ∷ [])) (simp length-append (omega (arith, f))) (joined-small n (q .done) (w .queues .doneNumbers) k h))
+      requeued (q .rx) (q .tx) (q .completion ++ (k ∷ []))
+      (completed n (q .pages) (q .rx) (q .tx) (q .completion) (w .queues) (q .completion ++ (k ∷ [])) (simp length-append (omega (arith, f))) (joined-small n (q .completion) (w .queues .completionNumbers) k h))
 
-  pub done-popped : Good (setDone (drop 1 (q .done)) q)
+  pub done-popped : Good (setCompletion (drop 1 (q .completion)) q)
   done-popped =
-      requeued (q .rx) (q .tx) (drop 1 (q .done))
-      (completed n (q .pages) (q .rx) (q .tx) (q .done) (w .queues) (drop 1 (q .done)) (simp length-drop (omega (arith, w .queues .doneFew))) (λ j m. w .queues .doneNumbers j (member-drop (q .done) j m)))
+      requeued (q .rx) (q .tx) (drop 1 (q .completion))
+      (completed n (q .pages) (q .rx) (q .tx) (q .completion) (w .queues) (drop 1 (q .completion)) (simp length-drop (omega (arith, w .queues .completionFew))) (λ j m. w .queues .completionNumbers j (member-drop (q .completion) j m)))
 
-  pub tx-and-done-emptied : Good (setDone [] (setTx [] q))
+  pub tx-and-done-emptied : Good (setCompletion [] (setTx [] q))
   tx-and-done-emptied =
       requeued (q .rx) [] []
-      (completed n (q .pages) (q .rx) [] (q .done) (unsent n (q .pages) (q .rx) (q .tx) (q .done) (w .queues)) [] (omega arith) (λ j m. nobody j m))
+      (completed n (q .pages) (q .rx) [] (q .completion) (unsent n (q .pages) (q .rx) (q .tx) (q .completion) (w .queues)) [] (omega arith) (λ j m. nobody j m))
 
 -- Other registers beside the same pool.
-pub beside : {n b p r b′ p′ r′ : ℕ} {q : Pool} → Formed n b p r q → b′ < 8 → p′ < 64 → (r′ < n) ⊎ (r′ ≡ 0x80) → Formed n b′ p′ r′ q
-beside w x y z = record { count = w .count; pages = w .pages; bankSmall = x; packetSmall = y; resultGood = z; queues = w .queues }
+pub beside : {n : ℕ} {r s : Numbers} {q : Pool} → Clauses n r q → GoodNumbers n s → Clauses n s q
+beside w g = record { count = w .count; pages = w .pages; numbers = g; queues = w .queues }
 
 -- No packet has pages, and no queue has entries.
 none-there : (n i : ℕ) → getD {A = List ℕ} (replicate n []) i [] ≡ []
@@ -232,9 +219,9 @@ none-there zero i = refl
 none-there (suc n) zero = refl
 none-there (suc n) (suc i) = none-there n i
 
-pub emptied : (n : ℕ) {b p r : ℕ} → b < 8 → p < 64 → (r < n) ⊎ (r ≡ 0x80) → Formed n b p r (emptyPool n)
+pub emptied : (n : ℕ) {r : Numbers} → GoodNumbers n r → Clauses n r (emptyPool n)
 unfolding member
-emptied n x y z = record {
+emptied n g = record {
   count = length-replicate n [];
   pages = record {
     once = λ i j a u v. nobody a (sym (ap (member a) (none-there n i)) ∙ u);
@@ -242,16 +229,14 @@ emptied n x y z = record {
     within = λ i a u. nobody a (sym (ap (member a) (none-there n i)) ∙ u);
     atMost = λ i. rw (none-there n i) (omega arith);
   };
-  bankSmall = x;
-  packetSmall = y;
-  resultGood = z;
+  numbers = g;
   queues = record {
     rxAllocated = λ j m. nobody j m;
     txAllocated = λ j m. nobody j m;
     rxDistinct = tt;
     txDistinct = tt;
     notBoth = λ j m. refl;
-    doneFew = omega arith;
-    doneNumbers = λ j m. nobody j m;
+    completionFew = omega arith;
+    completionNumbers = λ j m. nobody j m;
   };
 }

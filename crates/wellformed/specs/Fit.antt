@@ -1,52 +1,36 @@
 -- The test that refusal 16 makes is true exactly when the memory has its length and the chip is well formed: clause by clause.
 use mathlib.Core.Path.{_≡_, refl, ap, sym, _∙_}
-use mathlib.Core.Bool.{Bool, true, false, _&&_, true≢false}
-use mathlib.Core.Logic.{_⊎_, ⊎-elim}
+use mathlib.Core.Bool.{true, false, _&&_, true≢false}
 use mathlib.Core.List.{List, [], _∷_}
 use Prim.Native.Nat.{ℕ, zero, suc, _*_, _≤_, _<_}
 use native.Mathlib.Omega.{arith}
 use lib.Dec.{leb}
 use lib.ListN.{length, getD}
 use Rattle.rules.specs.Lists.{member, some?, owned}
-use Rattle.rules.specs.Chip.{Registers, Pool, Chip}
+use Rattle.rules.specs.Chip.{Numbers, Pool, Chip}
 use Rattle.rules.specs.Answers.{refused}
-use Rattle.rules.specs.Step.{Input, stepOn, stepOf}
-use Rattle.rules.specs.WellFormed.{Above, Ascending, Distinct, GoodPages, GoodQueues, FormedAt, above, ascends, allBelow, apart, noneOwned, pagesGood, queueGood, queuesGood, numbersGood, formed, fit}
-use Rattle.lists.specs.Facts.{if-not, Decides, agrees, always, is-true, is-false, _and_, _or_, lt-decides, le-decides, eq-decides, member-cases, member-first, member-later}
+use Rattle.rules.specs.Step.{Input, serve, stepOf}
+use Rattle.rules.specs.WellFormed.{Above, Ascending, Distinct, GoodPages, GoodQueues, GoodNumbers, FormedAt}
+use Rattle.rules.specs.Tests.{above, ascends, allBelow, apart, noneOwned, pagesGood, queueGood, queuesGood, numbersGood, formed, fit}
+use Rattle.lists.specs.Facts.{if-not, Decides, agrees, always, is-true, is-false, _and_, _or_, lt-decides, le-decides, eq-decides, nobody}
+use Rattle.lists.specs.Each.{Each, each-member, member-each, members}
 use Rattle.lists.specs.Owned.{owned-none, owned-in}
-
--- What holds of each number in a list.
-abbrev Each : (ℕ → Type 0) → List ℕ → Type 0
-Each P l = (k : ℕ) → member k l ≡ true → P k
-
-each-none : (P : ℕ → Type 0) → Each P []
-unfolding member
-each-none P k m = absurd (true≢false (sym m))
-
-module _ (P : ℕ → Type 0) (x : ℕ) (xs : List ℕ) where
-  each-more : P x → Each P xs → Each P (x ∷ xs)
-  each-more p h k m = ⊎-elim (λ e. rw e p) (h k) (member-cases k x xs m)
-
-  each-rest : Each P (x ∷ xs) → Each P xs
-  each-rest h k m = h k (member-later k x xs m)
-
-  each-decides : {b c : Bool} → Decides b (P x) → Decides c (Each P xs) → Decides (b && c) (Each P (x ∷ xs))
-  each-decides p q = agrees (p and q) (λ w. each-more (w .0) (w .1)) (λ h. (h x (member-first x xs), each-rest h))
+use Rattle.wellformed.specs.Count.{good-rest}
 
 below-decides : (n : ℕ) (l : List ℕ) → Decides (allBelow n l) (Each (λ k. k < n) l)
 unfolding allBelow
-below-decides n [] = always (each-none _)
-below-decides n (x ∷ xs) = each-decides (λ k. k < n) x xs (lt-decides x n) (below-decides n xs)
+below-decides n [] = always tt
+below-decides n (x ∷ xs) = lt-decides x n and below-decides n xs
 
 apart-decides : (l other : List ℕ) → Decides (apart l other) (Each (λ k. member k other ≡ false) l)
 unfolding apart
-apart-decides [] other = always (each-none _)
-apart-decides (x ∷ xs) other = each-decides (λ k. member k other ≡ false) x xs (is-false (member x other)) (apart-decides xs other)
+apart-decides [] other = always tt
+apart-decides (x ∷ xs) other = is-false (member x other) and apart-decides xs other
 
 none-decides : (l : List ℕ) (ls : List (List ℕ)) → Decides (noneOwned l ls) (Each (λ p. owned p ls ≡ false) l)
 unfolding noneOwned
-none-decides [] ls = always (each-none _)
-none-decides (x ∷ xs) ls = each-decides (λ p. owned p ls ≡ false) x xs (is-false (owned x ls)) (none-decides xs ls)
+none-decides [] ls = always tt
+none-decides (x ∷ xs) ls = is-false (owned x ls) and none-decides xs ls
 
 -- Page lists.
 above-decides : (x : ℕ) (l : List ℕ) → Decides (above x l) (Above x l)
@@ -62,23 +46,24 @@ ascends-decides (x ∷ xs) = above-decides x xs
 -- a page list beside those behind it
 record GoodList (n : ℕ) (l : List ℕ) (ls : List (List ℕ)) : Type 0 where
   ascend : Ascending l
-  within : Each (λ p. p < n) l
+  within : (p : ℕ) → member p l ≡ true → p < n
   atMost : length l ≤ 8
   -- no later list has a page of it
-  alone : Each (λ p. owned p ls ≡ false) l
+  alone : (p : ℕ) → member p l ≡ true → owned p ls ≡ false
 
 list-decides : (n : ℕ) (l : List ℕ) (ls : List (List ℕ)) → Decides (ascends l && allBelow n l && leb (length l) 8 && noneOwned l ls) (GoodList n l ls)
 list-decides n l ls =
-    agrees (ascends-decides l and below-decides n l and le-decides (length l) 8 and none-decides l ls)
+    agrees
+    (ascends-decides l and members (λ p. p < n) l (below-decides n l) and le-decides (length l) 8 and members (λ p. owned p ls ≡ false) l (none-decides l ls))
     (λ w. record { ascend = w .0 .0 .0; within = w .0 .0 .1; atMost = w .0 .1; alone = w .1 })
     (λ g. (((g .ascend, g .within), g .atMost), g .alone))
 
 -- Page lists are good where the first is, and those behind it.
 good-none : (n : ℕ) → GoodPages n []
 good-none n = record {
-  once = λ i j p x y. absurd (each-none (λ k. ⊥) p x);
+  once = λ i j p x y. nobody p x;
   ascend = λ i. tt;
-  within = λ i. each-none (λ p. p < n);
+  within = λ i p x. nobody p x;
   atMost = λ i. omega arith;
 }
 
@@ -87,7 +72,7 @@ module _ (n : ℕ) (l : List ℕ) (ls : List (List ℕ)) where
   good-more f g = record {
     once = once;
     ascend = by-list Ascending (f .ascend) (g .ascend);
-    within = by-list (Each (λ p. p < n)) (f .within) (g .within);
+    within = by-list (λ x. (p : ℕ) → member p x ≡ true → p < n) (f .within) (g .within);
     atMost = by-list (λ x. length x ≤ 8) (f .atMost) (g .atMost);
   }
     where
@@ -112,19 +97,11 @@ module _ (n : ℕ) (l : List ℕ) (ls : List (List ℕ)) where
     alone = λ p m. owned-none p ls (λ i k. let e = g .once 0 (suc i) p m k in omega (arith, e));
   }
 
-  good-rest : GoodPages n (l ∷ ls) → GoodPages n ls
-  good-rest g = record {
-    once = λ i j p x y. let e = g .once (suc i) (suc j) p x y in omega (arith, e);
-    ascend = λ i. g .ascend (suc i);
-    within = λ i. g .within (suc i);
-    atMost = λ i. g .atMost (suc i);
-  }
-
-pages-decides : (n : ℕ) (ls : List (List ℕ)) → Decides (pagesGood n ls) (GoodPages n ls)
+pub pages-decides : (n : ℕ) (ls : List (List ℕ)) → Decides (pagesGood n ls) (GoodPages n ls)
 unfolding pagesGood
 pages-decides n [] = always (good-none n)
 pages-decides n (l ∷ ls) =
-    agrees (list-decides n l ls and pages-decides n ls) (λ w. good-more n l ls (w .0) (w .1)) (λ g. (good-first n l ls g, good-rest n l ls g))
+    agrees (list-decides n l ls and pages-decides n ls) (λ w. good-more n l ls (w .0) (w .1)) (λ g. (good-first n l ls g, good-rest g))
 
 -- Queues.
 abbrev Has : List (List ℕ) → ℕ → Type 0
@@ -132,48 +109,45 @@ Has ls k = some? (getD ls k []) ≡ true
 
 queue-decides : (l : List ℕ) (ls : List (List ℕ)) → Decides (queueGood l ls) (Each (Has ls) l × Distinct l)
 unfolding queueGood
-queue-decides [] ls = always (each-none (Has ls), tt)
+queue-decides [] ls = always (tt, tt)
 queue-decides (x ∷ xs) ls =
     agrees (is-true (some? (getD ls x [])) and is-false (member x xs) and queue-decides xs ls)
-    (λ w. (each-more (Has ls) x xs (w .0 .0) (w .1 .0), (w .0 .1, w .1 .1)))
-    (λ q. ((q .0 x (member-first x xs), q .1 .0), (each-rest (Has ls) x xs (q .0), q .1 .1)))
+    (λ w. ((w .0 .0, w .1 .0), (w .0 .1, w .1 .1))) (λ q. ((q .0 .0, q .1 .0), (q .0 .1, q .1 .1)))
 
-queues-decides : (n : ℕ) (q : Pool) → Decides (queuesGood n q) (GoodQueues n (q .pages) (q .rx) (q .tx) (q .done))
+entries-decide : (l : List ℕ) (ls : List (List ℕ)) → Decides (queueGood l ls) (((k : ℕ) → member k l ≡ true → Has ls k) × Distinct l)
+entries-decide l ls = agrees (queue-decides l ls) (λ w. (each-member (Has ls) l (w .0), w .1)) (λ w. (member-each (Has ls) l (w .0), w .1))
+
+pub queues-decides : (n : ℕ) (q : Pool) → Decides (queuesGood n q) (GoodQueues n (q .pages) (q .rx) (q .tx) (q .completion))
 unfolding queuesGood
 queues-decides n q =
     agrees
-    (queue-decides (q .rx) (q .pages) and queue-decides (q .tx) (q .pages) and apart-decides (q .rx) (q .tx) and le-decides (length (q .done)) n and below-decides n (q .done))
+    (entries-decide (q .rx) (q .pages) and entries-decide (q .tx) (q .pages) and members (λ k. member k (q .tx) ≡ false) (q .rx) (apart-decides (q .rx) (q .tx))
+    and le-decides (length (q .completion)) n and members (λ k. k < n) (q .completion) (below-decides n (q .completion)))
     (λ w. record {
       rxAllocated = w .0 .0 .0 .0 .0;
       rxDistinct = w .0 .0 .0 .0 .1;
       txAllocated = w .0 .0 .0 .1 .0;
       txDistinct = w .0 .0 .0 .1 .1;
       notBoth = w .0 .0 .1;
-      doneFew = w .0 .1;
-      doneNumbers = w .1;
+      completionFew = w .0 .1;
+      completionNumbers = w .1;
     })
-    (λ g. (((((g .rxAllocated, g .rxDistinct), (g .txAllocated, g .txDistinct)), g .notBoth), g .doneFew), g .doneNumbers))
+    (λ g. (((((g .rxAllocated, g .rxDistinct), (g .txAllocated, g .txDistinct)), g .notBoth), g .completionFew), g .completionNumbers))
 
 -- The registers' numbers, and all clauses.
-numbers-decides : (n : ℕ) (r : Registers) → Decides (numbersGood n r) (((r .bank < 8) × (r .packet < 64)) × ((r .result < n) ⊎ (r .result ≡ 0x80)))
+pub numbers-decides : (n : ℕ) (r : Numbers) → Decides (numbersGood n r) (GoodNumbers n r)
 unfolding numbersGood
 numbers-decides n r =
-    lt-decides (r .bank) 8 and lt-decides (r .packet) 64 and (lt-decides (r .result) n or eq-decides (r .result) 0x80)
+    agrees (lt-decides (r .bank) 8 and lt-decides (r .packet) 64 and (lt-decides (r .result) n or eq-decides (r .result) 0x80))
+    (λ w. record { bankSmall = w .0 .0; packetSmall = w .0 .1; resultGood = w .1 }) (λ g. ((g .bankSmall, g .packetSmall), g .resultGood))
 
 pub formed-decides : (n : ℕ) (c : Chip) → Decides (formed n c) (FormedAt n c)
 unfolding formed
 formed-decides n c =
     agrees
-    (eq-decides (length (c .pool .pages)) n and pages-decides n (c .pool .pages) and numbers-decides n (c .regs) and queues-decides n (c .pool))
-    (λ w. record {
-      count = w .0 .0 .0;
-      pages = w .0 .0 .1;
-      bankSmall = w .0 .1 .0 .0;
-      packetSmall = w .0 .1 .0 .1;
-      resultGood = w .0 .1 .1;
-      queues = w .1;
-    })
-    (λ f. (((f .count, f .pages), ((f .bankSmall, f .packetSmall), f .resultGood)), f .queues))
+    (eq-decides (length (c .pool .pages)) n and pages-decides n (c .pool .pages) and numbers-decides n (c .regs .numbers) and queues-decides n (c .pool))
+    (λ w. record { count = w .0 .0 .0; pages = w .0 .0 .1; numbers = w .0 .1; queues = w .1 })
+    (λ f. (((f .count, f .pages), f .numbers), f .queues))
 
 pub formed-sound : (n : ℕ) (c : Chip) → formed n c ≡ true → FormedAt n c
 formed-sound n c = formed-decides n c .sound
@@ -188,7 +162,7 @@ fit-decides n c = eq-decides (length (c .memory)) (256 * n) and formed-decides n
 
 -- So a step on such a chip goes by its input, and on any other is refusal 16.
 module _ (n : ℕ) (i : Input) (c : Chip) (out : List ℕ) where
-  pub step-fit : length (c .memory) ≡ 256 * n → FormedAt n c → stepOf n i c out ≡ stepOn i c out
+  pub step-fit : length (c .memory) ≡ 256 * n → FormedAt n c → stepOf n i c out ≡ serve i c out
   unfolding stepOf
   step-fit m f = rw (fit-decides n c .complete (m, f))
 
