@@ -7,15 +7,15 @@ import subprocess
 import sys
 
 specs, programs, records, first, streams = sys.argv[1], sys.argv[2], *map(int, sys.argv[3:6])
-MODULES = "Bits Lists WellFormed Packet Mmu Interrupts Data Registers Crc Receive Send Step Bench".split()
 
 # every definition that has to unfold for the rules to compute, under a name with its module in front
 uses, unfolded = [], ["replies"]
-for module in MODULES:
+for module in re.findall(r"^pub mod (\S+)", open(f"{specs}/Lib.antt").read(), flags=re.M):
     text = open(f"{specs}/{module}.antt").read()
     names = re.findall(r"^unfoldable pub (\S+) :", text, flags=re.M)
     unfolded += [f"{module}·{name}" for name in names]
-    uses.append(f"use Rattle.rules.specs.{module}.{{{', '.join(f'{name} as {module}·{name}' for name in names)}}}")
+    if names:
+        uses.append(f"use Rattle.rules.specs.{module}.{{{', '.join(f'{name} as {module}·{name}' for name in names)}}}")
 
 print(
     "use mathlib.Core.Path.{_≡_, refl}",

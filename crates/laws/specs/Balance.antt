@@ -6,6 +6,7 @@ use native.Mathlib.Omega.{arith}
 use lib.ListN.{length, getD, set, replicate, length-set, length-replicate, List·getD-map}
 use Rattle.rules.specs.Chip.{Chip, free, powered}
 use Rattle.rules.specs.Step.{Input, stepOf, runOf}
+use Rattle.lists.specs.Facts.{map-set}
 use Rattle.wellformed.specs.Count.{total, free-and-total}
 use Rattle.wellformed.specs.Keeps.{Fits, keeps, powered-fits}
 use Rattle.laws.specs.Ledger.{Entry, grants, returns, restarts, entriesOf, Ledger, blank, entered, enteredAll, ledgerFrom}
@@ -23,11 +24,6 @@ unfolding total
 total-none zero = refl
 total-none (suc n) = omega (arith, total-none n)
 
-lengths-set : (ls : List (List ℕ)) (k : ℕ) (l : List ℕ) → map length (set ls k l) ≡ set (map length ls) k (length l)
-lengths-set [] k l = refl
-lengths-set (x ∷ xs) zero l = refl
-lengths-set (x ∷ xs) (suc k) l = ap (λ (t : List ℕ). length x ∷ t) (lengths-set xs k l)
-
 lengths-none : (n : ℕ) → map length (replicate {A = List ℕ} n []) ≡ replicate n 0
 lengths-none zero = refl
 lengths-none (suc n) = ap (λ (t : List ℕ). 0 ∷ t) (lengths-none n)
@@ -42,7 +38,7 @@ entry-balanced : (n : ℕ) (e : Entry) (a b : List (List ℕ)) (l : Ledger) → 
 unfolding entered
 entry-balanced n (grants k m) a b l z p h = (
   record {
-    holds = rw (p .4) (lengths-set a k (p .0) ∙ ap₂ (λ (x : List ℕ) (y : ℕ). set x k y) (h .holds) (p .3));
+    holds = rw (p .4) (map-set length a k (p .0) ∙ ap₂ (λ (x : List ℕ) (y : ℕ). set x k y) (h .holds) (p .3));
     even = rw (p .4) (omega (arith, total-set a k (p .0) (omega (arith, p .1)), ap length (p .2), p .3, h .even));
   },
   rw (p .4) (length-set a k (p .0) ∙ z),
@@ -50,7 +46,7 @@ entry-balanced n (grants k m) a b l z p h = (
 entry-balanced n (returns k) a b l z p h =
     let had : getD (l .holds) k 0 ≡ length (getD a k []) = ap (λ (x : List ℕ). getD x k 0) (sym (h .holds)) ∙ List·getD-map length a k [] in (
       record {
-        holds = rw (p .1) (lengths-set a k [] ∙ ap (λ (x : List ℕ). set x k 0) (h .holds));
+        holds = rw (p .1) (map-set length a k [] ∙ ap (λ (x : List ℕ). set x k 0) (h .holds));
         even = rw (p .1) (omega (arith, total-set a k [] (omega (arith, p .0)), had, h .even));
       },
       rw (p .1) (length-set a k [] ∙ z),

@@ -11,20 +11,17 @@ use Rattle.rules.specs.Answers.{doneWith, leaving}
 use Rattle.rules.specs.WellFormed.{WellFormed}
 use Rattle.rules.specs.Registers.{Access, byte, read, registerAt, misplaced, lanesAt, taken, readRegister, access}
 use Rattle.rules.specs.Step.{Input, driver, frame, serve, step, history}
-use Rattle.wellformed.specs.Fit.{step-fit, fit-decides}
+use Rattle.wellformed.specs.Fit.{step-fit}
 use Rattle.wellformed.specs.Count.{free-and-total}
 use Rattle.wellformed.specs.Keeps.{keeps, powered-fits}
-use Rattle.laws.specs.Accounted.{IsFree, InOne, accounted}
+use Rattle.laws.specs.Accounted.{IsFree, InOne, accounted-after}
 use Rattle.laws.specs.Ledger.{Ledger, blank, ledgerFrom}
 use Rattle.rules.specs.Receive.{Frame}
 use Rattle.laws.specs.Loads.{Loads}
 use Rattle.laws.specs.Merge.{Merge, Merged, merging}
 use Rattle.laws.specs.Balance.{run-fits, balances}
 
--- A chip is well formed at power-up, after each step from a well-formed one, and so throughout every history.
-pub power-up-well : WellFormed powerUp
-power-up-well = powered-fits 24 .0
-
+-- A chip is well formed at power-up (`power-up-well` of wellformed), after each step from a well-formed one, and so throughout every history.
 pub step-well : (i : Input) (c : Chip) (out : List ℕ) → WellFormed c → length (c .memory) ≡ 6144 → WellFormed (step i c out .chip) × (length (step i c out .chip .memory) ≡ 6144)
 step-well i c out w m = keeps 24 c (w, m) i out
 
@@ -33,9 +30,7 @@ history-well inputs out = run-fits 24 (omega arith) inputs powerUp out (powered-
 
 -- After each step from a well-formed chip every page is free or in exactly one packet, at one place of its list.
 pub pages-accounted : (i : Input) (c : Chip) (out : List ℕ) → WellFormed c → length (c .memory) ≡ 6144 → (p : ℕ) → p < 24 → IsFree (step i c out .chip) p ⊎ InOne (step i c out .chip) p
-pages-accounted i c out w m p h =
-    let k = step-well i c out w m .0 in
-    accounted 24 (step i c out .chip) k p (omega (arith, h, k .count))
+pages-accounted i c out w m p h = accounted-after 24 i c out (w, m) p (omega (arith, h, step-well i c out w m .0 .count))
 
 -- A byte read of MIR's high byte, bank 0 offset 9, answers 0 with the number of free pages, and changes nothing.
 pub mir-read : (c : Chip) (out : List ℕ) → WellFormed c → length (c .memory) ≡ 6144 → c .regs .numbers .bank ≡ 0 → step (driver (read byte 9)) c out ≡ leaving out (doneWith (length (free c)) c)
@@ -62,4 +57,4 @@ ledger-balances inputs out later b =
 -- Loading and reception do not disturb each other: every merge of loads and arriving frames ends in the same chip, with the same answers.
 pub merged-alike : (c : Chip) (out : List ℕ) → WellFormed c → length (c .memory) ≡ 6144 → (loads : List Access) (frames : List Frame) → Loads c c loads
     → (inputs : List Input) (m : Merge (map driver loads) (map frame frames) inputs) → Merged 24 c out loads frames m
-merged-alike = merging 24 (λ i c out w m. keeps 24 c (w, m) i out) (λ c w m. fit-decides 24 c .complete (m, w))
+merged-alike c out w m = merging 24 c out (w, m)

@@ -2,14 +2,14 @@
 use mathlib.Core.Path.{_≡_, refl, ap, sym, _∙_}
 use mathlib.Core.Bool.{Bool, true, false, not, _&&_, _||_, true≢false}
 use mathlib.Core.Logic.{_⊎_, inl, inr, ⊎-elim}
-use mathlib.Core.List.{List, [], _∷_, _++_, append-nil, append-assoc}
+use mathlib.Core.List.{List, [], _∷_, _++_, map, append-nil, append-assoc}
 use Prim.Native.Nat.{ℕ, zero, suc, _+_, _≤_, _<_}
 use native.Mathlib.Numerals.{add-one}
 use native.Mathlib.Omega.{arith}
 use native.Mathlib.Decide.{decLe}
 use borrow.Author.Tests.{eq-eqb, ne-eqb, eqb-true, le-leb, leb-true, lt-ltb, ltb-true, not-true}
 use lib.Dec.{eqb, leb, ltb}
-use lib.ListN.{length, take, drop, getD, length-append}
+use lib.ListN.{length, take, drop, getD, set, length-append}
 use lib.Seq.{drop-cons, take-append-seam}
 use Rattle.rules.specs.Lists.{member, some?, owned, unless, freeBelow, firstEmpty}
 
@@ -88,6 +88,12 @@ no-head (x ∷ xs) h = absurd (omega arith)
 pub head-and-rest : {A : Type 0} (l : List A) (d : A) → 0 < length l → l ≡ getD l 0 d ∷ drop 1 l
 head-and-rest [] d h = absurd (omega arith)
 head-and-rest (x ∷ xs) d h = refl
+
+-- One entry replaced, seen through a function.
+pub map-set : {A B : Type 0} (f : A → B) (l : List A) (i : ℕ) (a : A) → map f (set l i a) ≡ set (map f l) i (f a)
+map-set f [] i a = refl
+map-set f (x ∷ xs) zero a = refl
+map-set f (x ∷ xs) (suc i) a = ap (_∷_ (f x)) (map-set f xs i a)
 
 -- Going down a list.
 pub member-here : (x : ℕ) (l : List ℕ) (j : ℕ) → j < length l → x ≡ getD l j 0 → member x (drop j l) ≡ true

@@ -1,12 +1,12 @@
 -- A buffer that is written over from a place on.
 use mathlib.Core.Path.{_≡_, refl, ap, sym, _∙_}
 use mathlib.Core.List.{List, [], _∷_, _++_, append-assoc}
-use Prim.Native.Nat.{ℕ, _+_, _≤_, _<_}
+use Prim.Native.Nat.{ℕ, suc, _+_, _≤_, _<_}
 use native.Mathlib.Nat.{add-assoc}
 use native.Mathlib.Numerals.{add-one}
 use native.Mathlib.Omega.{arith}
-use lib.ListN.{length, take, drop, set, length-append, length-drop}
-use lib.Seq.{length-take-le, take-at, drop-append-add, drop-drop, set-split}
+use lib.ListN.{length, take, drop, getD, set, length-append, length-drop}
+use lib.Seq.{length-take-le, take-at, take-suc, drop-append-add, drop-cons, drop-drop, set-at, set-split, append-snoc}
 
 -- the bytes stand from `at` on, and all others stay
 abbrev pub written : List ℕ → ℕ → List ℕ → List ℕ
@@ -50,3 +50,10 @@ writes-on {l} {m} {n} {i} {j} {k} {a} {b} h w v = record {
 -- The same bytes, named otherwise.
 pub writes-as : {l m : List ℕ} {i j : ℕ} {a b : List ℕ} → a ≡ b → Writes l i a m j → Writes l i b m j
 writes-as {l} {m} {i} {j} e w = rw e at w
+
+-- A copy that is written over the front of a buffer, one byte more.
+pub copy-step : (d s : List ℕ) (i z : ℕ) → i < length s → i < length d → set (take i s ++ drop i d) i (getD s i z) ≡ take (i + 1) s ++ drop (i + 1) d
+copy-step d s i z h k =
+    let j : i ≤ length s = omega arith in
+    rw (drop-cons d i z, add-one i, take-suc s i z h)
+    (set-at (take i s) (getD d i z) (drop (suc i) d) (getD s i z) i (length-take-le i s j) ∙ sym (append-snoc (take i s) (getD s i z) (drop (suc i) d)))

@@ -7,7 +7,7 @@ use lib.ListN.{length, getD, replicate}
 use Rattle.rules.specs.Bits.{bit, clearBit, flag, lowByte, highByte, wordAt}
 use Rattle.rules.specs.Lists.{some?}
 use Rattle.rules.specs.Chip.{Registers, Chip, size, pagesAt}
-use Rattle.rules.specs.Fields.{setTcr, setEphsr, setEcr, setTxEmpty, setTx, setCompletion, inRegisters, inPool, inMemory}
+use Rattle.rules.specs.Fields.{setTx, setCompletion, inSending, inRegisters, inPool, inMemory}
 use Rattle.rules.specs.Answers.{Turn, refused, over}
 use Rattle.rules.specs.Packet.{getBytes, putBytes}
 use Rattle.rules.specs.Mmu.{giveBack}
@@ -104,13 +104,18 @@ newEphsr isGood s address r =
 -- "A failure clears TXENA."; "TX EMPTY is set if TX is now empty."
 abbrev pub sentRegisters : Bool → Send → List ℕ → Bool → Registers → Registers
 sentRegisters isGood s address emptied r =
-    setTcr (cond isGood (r .sending .tcr) (clearBit 0 (r .sending .tcr)))
-    (setEphsr (newEphsr isGood s address r) (setEcr (newEcr isGood s (r .sending .ecr)) (setTxEmpty (r .sending .txEmpty || emptied) r)))
+    inSending (λ x. record {
+      tcr = cond isGood (x .tcr) (clearBit 0 (x .tcr));
+      ephsr = newEphsr isGood s address r;
+      ecr = newEcr isGood s (x .ecr);
+      txEmpty = x .txEmpty || emptied;
+    }) r
 
--- "Good with control bit 11: the packet is released. Else its number joins completion."
+-- "Good with control bit 11: the packet is released."
 unfoldable pub autoRelease : Bool → Registers → Bool
 autoRelease isGood r = isGood && bit 11 (r .control)
 
+-- "Else its number joins completion"
 abbrev pub retire : Bool → ℕ → Chip → Chip
 retire released k c = cond released (giveBack k c) (inPool (setCompletion (c .pool .completion ++ (k ∷ []))) c)
 
@@ -134,12 +139,16 @@ sendHead s k rest c out =
       output = over bytes out;
     }
 
--- refusal 13, then 14: "refusal 14 if full", where its number would join completion
+-- "Else its number joins completion (refusal 14 if full)."
+abbrev pub noPlace : Send → Chip → Bool
+noPlace s c = not (autoRelease (good (c .regs .sending .tcr) (s .outcome)) (c .regs)) && leb (size c) (length (c .pool .completion))
+
+-- refusal 13, then 14
 unfoldable pub ifSendable : Send → ℕ → List ℕ → Chip → List ℕ → Turn
 ifSendable s k rest c out =
-    cond (not (usable (byteCount (pagesAt c k) (c .memory)) (length (pagesAt c k)))) (refused 13 c out)
-    (cond (not (autoRelease (good (c .regs .sending .tcr) (s .outcome)) (c .regs)) && leb (size c) (length (c .pool .completion))) (refused 14 c out)
-    (sendHead s k rest c out))
+    let pages = pagesAt c k in
+    cond (not (usable (byteCount pages (c .memory)) (length pages))) (refused 13 c out)
+    (cond (noPlace s c) (refused 14 c out) (sendHead s k rest c out))
 
 -- "The TX head is sent": refusal 12 where TX is empty
 abbrev pub byTxHead : Send → List ℕ → Chip → List ℕ → Turn

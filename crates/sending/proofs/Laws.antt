@@ -1,19 +1,18 @@
 -- What a send does, with its tests answered: what the proofs of the code cite in place of the text of `finish`.
 use mathlib.Core.Path.{_≡_, ap, ap₂, sym, _∙_}
-use mathlib.Core.Bool.{Bool, true, false, not, _&&_}
+use mathlib.Core.Bool.{Bool, true, false, not}
 use mathlib.Core.List.{List}
 use Prim.Native.Nat.{ℕ, _≤_, _<_}
 use borrow.Author.Tests.{lt-ltb, le-ltb}
-use lib.Dec.{leb}
 use lib.ListN.{length, getD, drop}
 use Rattle.rules.specs.Bits.{bit}
 use Rattle.rules.specs.Lists.{some?}
-use Rattle.rules.specs.Chip.{Chip, size, pagesAt}
+use Rattle.rules.specs.Chip.{Chip, pagesAt}
 use Rattle.rules.specs.Fields.{setTx, inRegisters, inPool}
 use Rattle.rules.specs.Answers.{Turn, refused, over}
 use Rattle.rules.specs.Packet.{getBytes}
 use Rattle.lists.specs.Facts.{no-head, head-and-rest}
-use Rattle.rules.specs.Send.{Send, inLimits, usable, byteCount, good, putOut, newEphsr, sentRegisters, autoRelease, retire, statusWritten, sendHead, ifSendable, byTxHead, finish}
+use Rattle.rules.specs.Send.{Send, inLimits, usable, byteCount, good, putOut, newEphsr, sentRegisters, autoRelease, noPlace, retire, statusWritten, sendHead, ifSendable, byTxHead, finish}
 
 module _ (s : Send) (c : Chip) (out : List ℕ) where
   pub short-output : length out < 2048 → finish s c out ≡ refused 15 c out
@@ -47,10 +46,6 @@ module _ (s : Send) (k : ℕ) (rest : List ℕ) (c : Chip) (out : List ℕ) wher
   abbrev released : Bool
   released = autoRelease isGood (c .regs)
 
-  -- refusal 14
-  abbrev noPlace : Bool
-  noPlace = not released && leb (size c) (length (c .pool .completion))
-
   -- all that a send does
   abbrev done : List ℕ → ℕ → Turn
   done pages count =
@@ -75,10 +70,10 @@ module _ (s : Send) (k : ℕ) (rest : List ℕ) (c : Chip) (out : List ℕ) wher
     unfolding ifSendable
     bad-count u = rw (usable-same ∙ u)
 
-    pub completion-full : usable count (length pages) ≡ true → noPlace ≡ true → ifSendable s k rest c out ≡ refused 14 c out
+    pub completion-full : usable count (length pages) ≡ true → noPlace s c ≡ true → ifSendable s k rest c out ≡ refused 14 c out
     unfolding ifSendable
     completion-full u f = rw (usable-same ∙ u, f)
 
-    pub finishes : usable count (length pages) ≡ true → noPlace ≡ false → ifSendable s k rest c out ≡ done pages count
+    pub finishes : usable count (length pages) ≡ true → noPlace s c ≡ false → ifSendable s k rest c out ≡ done pages count
     unfolding ifSendable sendHead
     finishes u f = rw (usable-same ∙ u, f) (sym (ap₂ done p same-count))

@@ -1,7 +1,7 @@
 -- What the proofs of this crate and of those above it need of rows, maps and queues as lists.
 use mathlib.Core.Path.{_≡_, refl, ap, ap₂, sym, _∙_}
 use mathlib.Core.Bool.{Bool, true, false, cond, not}
-use mathlib.Core.List.{List, [], _∷_, _++_, map, append-assoc}
+use mathlib.Core.List.{List, [], _∷_, _++_, map, map-append, append-assoc}
 use Prim.Native.Nat.{ℕ, zero, suc, _+_, _-_, _≤_, _<_}
 use native.Mathlib.Numerals.{add-one}
 use native.Mathlib.Omega.{arith}
@@ -15,22 +15,13 @@ use Rattle.store.specs.declared.Packet.{Packet}
 use Rattle.store.specs.declared.Queue.{Queue}
 use Rattle.store.specs.Views.{page, packet, number, used, padded, rowOf, pagesOf, mapOf, SoundMap, entries, slotsOf, queueOf, SoundQueue}
 use Rattle.rules.specs.Lists.{some?}
-use Rattle.lists.specs.Facts.{or-true}
+use Rattle.lists.specs.Facts.{or-true, map-set}
 
 module _ {A B : Type 0} (f : A → B) where
-  pub map-set : (l : List A) (i : ℕ) (a : A) → map f (set l i a) ≡ set (map f l) i (f a)
-  map-set [] i a = refl
-  map-set (x ∷ xs) zero a = refl
-  map-set (x ∷ xs) (suc i) a = ap (λ (t : List B). f x ∷ t) (map-set xs i a)
-
   pub map-drop : (n : ℕ) (l : List A) → map f (drop n l) ≡ drop n (map f l)
   map-drop zero l = refl
   map-drop (suc n) [] = refl
   map-drop (suc n) (x ∷ xs) = map-drop n xs
-
-  pub map-append : (s t : List A) → map f (s ++ t) ≡ map f s ++ map f t
-  map-append [] t = refl
-  map-append (x ∷ xs) t = ap (λ (u : List B). f x ∷ u) (map-append xs t)
 
 -- Going down a row.
 pub used-stop : (row : List Page) (j : ℕ) (d : Page) → j < length row → getD row j d .0 ≡ 255 → used (drop j row) ≡ []

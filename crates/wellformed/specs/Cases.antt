@@ -1,19 +1,19 @@
 -- Going by the cases of the rules: what holds of each outcome holds of the test that chooses it, and what every refusal has, a step has.
 use mathlib.Core.Path.{_≡_, refl}
-use mathlib.Core.Bool.{Bool, true, false, cond, not, _&&_}
+use mathlib.Core.Bool.{Bool, true, false, cond, not}
 use mathlib.Core.List.{List, [], _∷_}
 use Prim.Native.Nat.{ℕ, suc}
-use lib.Dec.{leb, ltb}
+use lib.Dec.{ltb}
 use lib.ListN.{length}
 use Rattle.rules.specs.Bits.{bit}
 use Rattle.rules.specs.Lists.{member}
-use Rattle.rules.specs.Chip.{Chip, size, pagesAt, allocated}
+use Rattle.rules.specs.Chip.{Chip, pagesAt, allocated}
 use Rattle.rules.specs.Fields.{inRegisters}
 use Rattle.rules.specs.Answers.{Effect, Turn, doneWith, refuse, refused}
 use Rattle.rules.specs.Mmu.{queued, ifIdle, ifHead}
 use Rattle.rules.specs.Data.{rcv, against, oddFixed, past, ifPacket, ifOpen, readData}
 use Rattle.rules.specs.Registers.{Lanes, low, high, both, Register, TCR, EPHSR, RCR, ECR, MIR, RESERVED, STATION, CONTROL, COMMAND, PACKET, HEADS, POINTER, DATA, INTERRUPT, TABLE, BANK, UNUSED, ABSENT, width, clearEcr, lowOnly, readRegister}
-use Rattle.rules.specs.Send.{Send, inLimits, usable, byteCount, good, autoRelease, sendHead, ifSendable, byTxHead, finish}
+use Rattle.rules.specs.Send.{Send, inLimits, usable, byteCount, noPlace, sendHead, ifSendable, byTxHead, finish}
 use Rattle.rules.specs.Tests.{fit}
 use Rattle.rules.specs.Step.{Input, serve, stepOf}
 use Rattle.lists.specs.Facts.{or-left, or-right}
@@ -91,18 +91,14 @@ module _ (c : Chip) (P : Effect → Type 0) (no : (k : ℕ) → P (refuse (suc k
 
 -- A property of turns that every refusal on the chip has.
 module _ (c : Chip) (out : List ℕ) (P : Turn → Type 0) (no : (k : ℕ) → P (refused (suc k) c out)) where
-  -- is completion full, and the number would join it
-  abbrev pub noPlace : Send → Bool
-  noPlace s = not (autoRelease (good (c .regs .sending .tcr) (s .outcome)) (c .regs)) && leb (size c) (length (c .pool .completion))
-
-  by-tx-head : (s : Send) (l : List ℕ) → ((k : ℕ) (rest : List ℕ) → l ≡ k ∷ rest → noPlace s ≡ false → P (sendHead s k rest c out)) → P (byTxHead s l c out)
+  by-tx-head : (s : Send) (l : List ℕ) → ((k : ℕ) (rest : List ℕ) → l ≡ k ∷ rest → noPlace s c ≡ false → P (sendHead s k rest c out)) → P (byTxHead s l c out)
   unfolding ifSendable
   by-tx-head s [] h = no 11
   by-tx-head s (k ∷ rest) h =
-      pick-unless P (usable (byteCount (pagesAt c k) (c .memory)) (length (pagesAt c k))) (λ u. no 12) (λ u. pick-by P (noPlace s) (λ f. no 13) (h k rest refl))
+      pick-unless P (usable (byteCount (pagesAt c k) (c .memory)) (length (pagesAt c k))) (λ u. no 12) (λ u. pick-by P (noPlace s c) (λ f. no 13) (h k rest refl))
 
   -- refusals 15, 11, 12, 13 and 14, else the head of TX is sent
-  pub by-send : (s : Send) → ((k : ℕ) (rest : List ℕ) → c .pool .tx ≡ k ∷ rest → noPlace s ≡ false → P (sendHead s k rest c out)) → P (finish s c out)
+  pub by-send : (s : Send) → ((k : ℕ) (rest : List ℕ) → c .pool .tx ≡ k ∷ rest → noPlace s c ≡ false → P (sendHead s k rest c out)) → P (finish s c out)
   unfolding finish
   by-send s h =
       pick P (ltb (length out) 2048) (no 14)

@@ -9,15 +9,12 @@ use lib.ListN.{length}
 use Rattle.rules.specs.Bits.{bit}
 use Rattle.rules.specs.Chip.{Registers}
 use Rattle.rules.specs.Receive.{Frame, stored, disabled, notAccepted, tooLong, bad, noRoom, valueFor, dataLength, countOf, pagesFor, needed, accepted, destination, dropped, judge}
+use Rattle.lists.specs.Bytes.{count-least}
 use Rattle.wellformed.specs.Cases.{pick}
 
 pub data-short : (r : Registers) (len : ℕ) → dataLength r len ≤ len
 unfolding dataLength
 data-short r len = pick (λ (x : ℕ). x ≤ len) (bit 9 (r .receiving .rcr)) (omega arith) (omega arith)
-
-pub count-low : (n : ℕ) → n + 5 ≤ countOf n
-unfolding countOf
-count-low n = pick (λ (x : ℕ). n + 5 ≤ x) (bit 0 n) (omega arith) (omega arith)
 
 pub count-high : (n : ℕ) → countOf n ≤ n + 6
 unfolding countOf
@@ -25,7 +22,7 @@ count-high n = pick (λ (x : ℕ). x ≤ n + 6) (bit 0 n) (omega arith) (omega a
 
 pub needs-one : (r : Registers) (len : ℕ) → 1 ≤ needed r len
 unfolding needed pagesFor
-needs-one r len = omega (arith, count-low (dataLength r len))
+needs-one r len = omega (arith, count-least (dataLength r len))
 
 pub needs-seven : (r : Registers) (len : ℕ) → len ≤ 1532 → needed r len ≤ 7
 unfolding needed pagesFor

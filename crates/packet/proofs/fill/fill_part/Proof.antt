@@ -1,19 +1,13 @@
 use borrow.Author.Needs.{needs}
-use mathlib.Core.Path.{_≡_, refl, ap, sym, _∙_}
+use mathlib.Core.Path.{_≡_, refl, ap, _∙_}
 use mathlib.Core.List.{List, _++_}
-use Prim.Native.Nat.{ℕ, suc, _+_, _-_, _≤_, _<_}
+use Prim.Native.Nat.{ℕ, _-_, _≤_, _<_}
 use native.Mathlib.Omega.{arith}
-use native.Mathlib.Numerals.{add-one}
-use lib.ListN.{length, take, drop, getD, set, length-set}
-use lib.Seq.{drop-cons, set-at, take-suc, append-snoc, length-take-le, take-length}
+use lib.ListN.{length, take, drop, length-set}
+use lib.Seq.{take-length}
+use Rattle.lists.specs.Written.{copy-step}
 use Rattle.packet.proofs.fill.fill_part.Statement.{statement}
 use Rattle.packet.proofs.fill.fill_part.Tie as tie
-
-copy-step : (d s : List ℕ) (i z : ℕ) → i < length s → i < length d → set (take i s ++ drop i d) i (getD s i z) ≡ take (i + 1) s ++ drop (i + 1) d
-copy-step d s i z h k =
-    let j : i ≤ length s = omega arith in
-    rw (drop-cons d i z, add-one i, take-suc s i z h)
-    (set-at (take i s) (getD d i z) (drop (suc i) d) (getD s i z) i (length-take-le i s j) ∙ sym (append-snoc (take i s) (getD s i z) (drop (suc i) d)))
 
 abbrev Inv-loop : tie.InvT-loop
 Inv-loop part₀ bytes i₀ part i =

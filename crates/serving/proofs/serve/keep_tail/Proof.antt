@@ -1,20 +1,13 @@
 use borrow.Author.Needs.{needs}
 use mathlib.Core.Path.{_≡_, refl, ap, sym, _∙_}
 use mathlib.Core.List.{List, _++_}
-use Prim.Native.Nat.{ℕ, suc, _+_, _-_, _%_, _≤_, _<_}
+use Prim.Native.Nat.{ℕ, _+_, _-_, _%_, _≤_, _<_}
 use native.Mathlib.Omega.{arith}
-use native.Mathlib.Numerals.{add-one}
 use lib.ListN.{length, take, drop, getD, set, length-set, length-drop}
-use lib.Seq.{drop-cons, set-at, take-suc, take-at, append-snoc, length-take-le, getD-append-add, getD-drop}
+use lib.Seq.{take-at, length-take-le, getD-append-add, getD-drop}
+use Rattle.lists.specs.Written.{copy-step}
 use Rattle.serving.proofs.serve.keep_tail.Statement.{statement}
 use Rattle.serving.proofs.serve.keep_tail.Tie as tie
-
--- One byte more of the part from w on stands at the front.
-copied : (d s : List ℕ) (i z : ℕ) → i < length s → i < length d → set (take i s ++ drop i d) i (getD s i z) ≡ take (i + 1) s ++ drop (i + 1) d
-copied d s i z h k =
-    let j : i ≤ length s = omega arith in
-    rw (drop-cons d i z, add-one i, take-suc s i z h)
-    (set-at (take i s) (getD d i z) (drop (suc i) d) (getD s i z) i (length-take-le i s j) ∙ sym (append-snoc (take i s) (getD s i z) (drop (suc i) d)))
 
 -- No byte is written over before it is read.
 unread : (d : List ℕ) (w i z : ℕ) → w + i < length d → getD (take i (drop w d) ++ drop i d) (w + i) z ≡ getD (drop w d) i z
@@ -48,7 +41,7 @@ loop-again c =
     let w = a .before .args .filled - a .before .args .filled % 8 in
     let i = a .loop .i in
     let h : w + i < length d = omega (arith, v .1, t) in
-    (search needs, v .1, rw (v .2) (ap (set (take i (drop w d) ++ drop i d) i) (unread d w i 0 h) ∙ copied d (drop w d) i 0 (omega (arith, length-drop w d, h)) (omega (arith, h))), simp length-set (v .3))
+    (search needs, v .1, rw (v .2) (ap (set (take i (drop w d) ++ drop i d) i) (unread d w i 0 h) ∙ copy-step d (drop w d) i 0 (omega (arith, length-drop w d, h)) (omega (arith, h))), simp length-set (v .3))
 
 same-length : tie.Need-same-length Inv-loop μ-loop
 same-length c =
