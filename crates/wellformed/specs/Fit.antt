@@ -149,12 +149,6 @@ formed-decides n c =
     (λ w. record { count = w .0 .0 .0; pages = w .0 .0 .1; numbers = w .0 .1; queues = w .1 })
     (λ f. (((f .count, f .pages), f .numbers), f .queues))
 
-pub formed-sound : (n : ℕ) (c : Chip) → formed n c ≡ true → FormedAt n c
-formed-sound n c = formed-decides n c .sound
-
-pub formed-complete : (n : ℕ) (c : Chip) → FormedAt n c → formed n c ≡ true
-formed-complete n c = formed-decides n c .complete
-
 -- what refusal 16 asks
 pub fit-decides : (n : ℕ) (c : Chip) → Decides (fit n c) ((length (c .memory) ≡ 256 * n) × FormedAt n c)
 unfolding fit

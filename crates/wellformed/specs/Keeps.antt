@@ -1,7 +1,7 @@
 -- Every step from a well-formed chip gives a well-formed chip: accesses, frames and sends, refusals too. For any size n.
 use mathlib.Core.Path.{_≡_, refl, ap, sym, _∙_}
 use mathlib.Core.Bool.{Bool, true, false, not, _&&_, true≢false}
-use mathlib.Core.Logic.{_⊎_, inl, inr}
+use mathlib.Core.Logic.{inl, inr}
 use mathlib.Core.List.{List, [], _∷_, _++_}
 use Prim.Native.Nat.{ℕ, zero, suc, _+_, _*_, _≤_, _<_, _/_, _%_}
 use native.Mathlib.Omega.{arith}
@@ -11,10 +11,10 @@ use lib.ListN.{length, getD, set, take, length-replicate}
 use lib.Seq.{getD-set-same}
 use Rattle.rules.specs.Bits.{bit, lowByte}
 use Rattle.rules.specs.Lists.{member, some?, firstEmpty}
-use Rattle.rules.specs.Chip.{Registers, Chip, size, free, resetRegisters, powered, powerUp}
-use Rattle.rules.specs.Fields.{setResult, setRx, setCompletion, inRegisters, inPool, inMemory}
+use Rattle.rules.specs.Chip.{Registers, Chip, size, free, powered, powerUp}
+use Rattle.rules.specs.Fields.{setRx, setCompletion, inRegisters, inPool, inMemory}
 use Rattle.rules.specs.Answers.{Effect, Turn, refuse}
-use Rattle.rules.specs.WellFormed.{Distinct, GoodNumbers, Formed, FormedAt, WellFormed}
+use Rattle.rules.specs.WellFormed.{Distinct, Formed, FormedAt, WellFormed}
 use Rattle.rules.specs.Packet.{putBytes}
 use Rattle.rules.specs.Mmu.{Command, nothing, allocate, reset, removeRx, removeAndRelease, release, enqueue, resetTx, unknown, decode, perform, allot}
 use Rattle.rules.specs.Interrupts.{acknowledge}
@@ -27,7 +27,7 @@ use Rattle.lists.specs.Bytes.{length-put}
 use Rattle.lists.specs.Facts.{if-not, member-first}
 use Rattle.wellformed.specs.Cases.{pick, pick-by, by-head, by-idle, by-packet, by-tests, by-lanes, by-read, by-send, by-step}
 use Rattle.wellformed.specs.Frames.{storable, needs-one, needs-seven}
-use Rattle.wellformed.specs.Pool.{has-small, given-back, number-free, number-not-rx, number-not-tx, given, rx-popped, rx-joined, tx-popped, tx-joined, done-joined, done-popped, tx-and-done-emptied, beside, emptied}
+use Rattle.wellformed.specs.Pool.{has-small, given-back, number-free, number-not-rx, number-not-tx, given, rx-popped, rx-joined, tx-popped, tx-joined, done-joined, done-popped, tx-and-done-emptied, with-bank, with-packet, with-result, reset-numbers, beside, emptied}
 
 -- what refusal 16 asks of a chip with n pages
 abbrev pub Fits : ℕ → Chip → Type 0
@@ -61,10 +61,6 @@ decode-valid v =
     (pick Valid (eqb v 0x60) tt
     (pick Valid (eqb v 0x80) tt (pick Valid (eqb v 0xa0) tt (pick Valid (eqb v 0xc0) tt (pick Valid (eqb v 0xe0) tt tt)))))))
 
--- The reset values are good.
-pub reset-numbers : (n : ℕ) → GoodNumbers n (resetRegisters [] .numbers)
-reset-numbers n = record { bankSmall = omega arith; packetSmall = omega arith; resultGood = inr refl }
-
 module _ (n : ℕ) where
   abbrev Kept : Effect → Type 0
   Kept s = Fits n (s .chip)
@@ -77,10 +73,6 @@ module _ (n : ℕ) where
     head-small : (k : ℕ) (ks : List ℕ) → c .pool .rx ≡ k ∷ ks → k < n
     head-small k ks e = omega (arith, has-small (c .pool .pages) k (w .0 .queues .rxAllocated k (rw e (member-first k ks))), w .0 .count)
 
-    -- Another allocation result beside the same bank and packet number.
-    with-result : {x : ℕ} → (x < n) ⊎ (x ≡ 0x80) → GoodNumbers n (setResult x (c .regs) .numbers)
-    with-result g = record { bankSmall = w .0 .numbers .bankSmall; packetSmall = w .0 .numbers .packetSmall; resultGood = g }
-
     pub keeps-perform : (k : Command) → Valid k → Kept (perform k c)
     unfolding perform
     keeps-perform nothing v = w
@@ -88,11 +80,11 @@ module _ (n : ℕ) where
         pick-by Kept (leb m (length (free c)))
         (λ e. let h = leb-true m (length (free c)) e in
         let g = given (w .0) m (v .0) (v .1) h in (
-          beside g (with-result (inl (number-free (w .0) (omega (arith, v .0, h))))),
+          beside g (with-result (w .0 .numbers) _ (inl (number-free (w .0) (omega (arith, v .0, h))))),
           w .1,
         ))
-        (λ e. (beside (w .0) (with-result (inr refl)), w .1))
-    keeps-perform reset v = (rw (w .0 .count) (emptied n (with-result (inr refl))), w .1)
+        (λ e. (beside (w .0) (with-result (w .0 .numbers) 0x80 (inr refl)), w .1))
+    keeps-perform reset v = (rw (w .0 .count) (emptied n (with-result (w .0 .numbers) 0x80 (inr refl))), w .1)
     keeps-perform removeRx v = by-head c Kept no _ (c .pool .rx) (λ k ks e. (rx-popped (w .0) k ks e, w .1))
     keeps-perform removeAndRelease v =
         by-head c Kept no _ (c .pool .rx)
@@ -156,13 +148,13 @@ module _ (n : ℕ) where
     keeps-write (STATION k) p v = w
     keeps-write CONTROL p v = w
     keeps-write COMMAND p v = by-lanes c Kept no p _ (keeps-perform (decode (lowByte v)) (decode-valid (lowByte v)))
-    keeps-write PACKET p v = by-lanes c Kept no p _ (beside (w .0) (record { bankSmall = w .0 .numbers .bankSmall; packetSmall = omega arith; resultGood = w .0 .numbers .resultGood }), w .1)
+    keeps-write PACKET p v = by-lanes c Kept no p _ (beside (w .0) (with-packet (w .0 .numbers) (v % 64) (omega arith)), w .1)
     keeps-write HEADS p v = w
     keeps-write POINTER p v = w
     keeps-write DATA p v = keeps-write-data (bytesOf p v)
     keeps-write INTERRUPT p v = keeps-interrupt p v
     keeps-write (TABLE k) p v = w
-    keeps-write BANK p v = by-lanes c Kept no p _ (beside (w .0) (record { bankSmall = omega arith; packetSmall = w .0 .numbers .packetSmall; resultGood = w .0 .numbers .resultGood }), w .1)
+    keeps-write BANK p v = by-lanes c Kept no p _ (beside (w .0) (with-bank (w .0 .numbers) (v % 8) (omega arith)), w .1)
     keeps-write UNUSED p v = w
     keeps-write ABSENT p v = w
 

@@ -1,7 +1,7 @@
 -- What keeps the pool well formed: pages given and given back, entries that join and leave a queue. For any size n.
 use mathlib.Core.Path.{_≡_, refl, ap, sym, subst, _∙_}
 use mathlib.Core.Bool.{true, false, true≢false}
-use mathlib.Core.Logic.{⊎-elim}
+use mathlib.Core.Logic.{_⊎_, inr, ⊎-elim}
 use mathlib.Core.List.{List, [], _∷_, _++_}
 use Prim.Native.Nat.{ℕ, zero, suc, _≤_, _<_}
 use native.Mathlib.Omega.{arith}
@@ -10,7 +10,7 @@ use lib.Dec.{eqb}
 use lib.ListN.{length, getD, set, take, drop, replicate, length-append, length-drop, length-set, length-take, length-replicate}
 use lib.Seq.{getD-set-other}
 use Rattle.rules.specs.Lists.{member, some?, freeBelow, firstEmpty}
-use Rattle.rules.specs.Chip.{Numbers, Pool, emptyPool}
+use Rattle.rules.specs.Chip.{Numbers, Pool, resetRegisters, emptyPool}
 use Rattle.rules.specs.Fields.{setPages, setRx, setTx, setCompletion}
 use Rattle.rules.specs.WellFormed.{Distinct, GoodPages, GoodQueues, GoodNumbers, Clauses}
 use Rattle.lists.specs.Facts.{if-not, or-left, or-right, nobody, member-cases, member-later, member-append, member-free, member-take}
@@ -208,6 +208,20 @@ module _ {n : ℕ} {r : Numbers} {q : Pool} (w : Clauses n r q) where
   tx-and-done-emptied =
       requeued (q .rx) [] []
       (completed n (q .pages) (q .rx) [] (q .completion) (unsent n (q .pages) (q .rx) (q .tx) (q .completion) (w .queues)) [] (omega arith) (λ j m. nobody j m))
+
+-- The registers' numbers: one of them is another, or all are reset.
+module _ {n : ℕ} {r : Numbers} (g : GoodNumbers n r) where
+  pub with-bank : (x : ℕ) → x < 8 → GoodNumbers n (record { bank = x; packet = r .packet; result = r .result })
+  with-bank x h = record { bankSmall = h; packetSmall = g .packetSmall; resultGood = g .resultGood }
+
+  pub with-packet : (x : ℕ) → x < 64 → GoodNumbers n (record { bank = r .bank; packet = x; result = r .result })
+  with-packet x h = record { bankSmall = g .bankSmall; packetSmall = h; resultGood = g .resultGood }
+
+  pub with-result : (x : ℕ) → (x < n) ⊎ (x ≡ 0x80) → GoodNumbers n (record { bank = r .bank; packet = r .packet; result = x })
+  with-result x h = record { bankSmall = g .bankSmall; packetSmall = g .packetSmall; resultGood = h }
+
+pub reset-numbers : (n : ℕ) → GoodNumbers n (resetRegisters [] .numbers)
+reset-numbers n = record { bankSmall = omega arith; packetSmall = omega arith; resultGood = inr refl }
 
 -- Other registers beside the same pool.
 pub beside : {n : ℕ} {r s : Numbers} {q : Pool} → Clauses n r q → GoodNumbers n s → Clauses n s q
