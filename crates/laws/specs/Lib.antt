@@ -1,7 +1,7 @@
 -- The client's demands, and what leads to them. The modules tell the story in this order. No code rests on this crate.
 -- What the rules compute: the worked example, the table of document 01, the hash examples of the data sheet.
 pub mod Example
-pub mod Numbers
+pub mod EitherSide
 -- Demand 1: a refusal changes nothing.
 pub mod Refusals
 -- Demand 2: each page is free or in one packet, and the free count is accounted for. (`wellformed` has that each step keeps a chip well formed.)
