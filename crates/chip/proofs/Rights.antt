@@ -35,7 +35,7 @@ module _ (r : Registers) (m : List (List Page)) (mem : List ℕ) (o : InOrder r 
       → Right (step i (view r m mem) out) x mem′ out′
   right i out x mem′ out′ p e =
       let c = view r m mem in
-      let s : step i c out ≡ serve i c out = step-fit 24 i c out (o .full) (o .ready .well) in
+      let s : step i c out ≡ serve i c out = step-fit 24 i c out (o .ready .well, o .full) in
       let k = subst (λ (t : Turn). FormedAt 24 (t .chip) × (length (t .chip .memory) ≡ 6144)) s (keeps 24 c (o .ready .well, o .full) i out) in
       record {
         chip = p .chip ∙ sym (ap (λ (t : Turn). t .chip) s);

@@ -18,7 +18,8 @@ use Rattle.wellformed.specs.Count.{above-least}
 use Rattle.lists.specs.Owned.{owned-in}
 use Rattle.wellformed.specs.Pages.{first-empty}
 use Rattle.wellformed.specs.Pool.{number-free}
-use Rattle.wellformed.specs.Keeps.{Fits, keeps}
+use Rattle.wellformed.specs.Fit.{Fits}
+use Rattle.wellformed.specs.Keeps.{keeps}
 
 -- A page is in exactly one packet, at exactly one place of its list, and not listed as free.
 pub record InOne (c : Chip) (p : ℕ) : Type 0 where
@@ -105,7 +106,7 @@ module _ (n : ℕ) (c : Chip) (w : FormedAt n c) where
             taken = if-not (member p (free c)) (λ m. true≢false (sym o ∙ member-free (size c) (c .pool .pages) p m .1));
           })
 
-  -- "A free number always exists when a free page does": a grant and a stored frame find one.
+  -- A number is free when a page is: a grant and a stored frame find one.
   pub number-when-page : 0 < length (free c) → (firstEmpty (c .pool .pages) < n) × (allocated (firstEmpty (c .pool .pages)) c ≡ false)
   unfolding some?
   number-when-page h = (number-free w h, ap some? (first-empty (c .pool .pages)))

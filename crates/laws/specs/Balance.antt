@@ -1,4 +1,4 @@
--- The ledger balances: the free pages with the pages granted are 24 with the pages given back. For any size n up to 128.
+-- The ledger balances: the free pages with the pages granted are n with the pages given back, for any n up to 128.
 use mathlib.Core.Path.{_≡_, refl, ap, ap₂, sym, _∙_}
 use mathlib.Core.List.{List, [], _∷_, map}
 use Prim.Native.Nat.{ℕ, zero, suc, _+_, _≤_, _<_}
@@ -8,7 +8,8 @@ use Rattle.rules.specs.Chip.{Chip, free, powered}
 use Rattle.rules.specs.Step.{Input, stepOf, runOf}
 use Rattle.lists.specs.Facts.{map-set}
 use Rattle.wellformed.specs.Count.{total, free-and-total}
-use Rattle.wellformed.specs.Keeps.{Fits, keeps, powered-fits}
+use Rattle.wellformed.specs.Fit.{Fits}
+use Rattle.wellformed.specs.Keeps.{keeps, powered-fits}
 use Rattle.laws.specs.Ledger.{Entry, grants, returns, restarts, entriesOf, Ledger, blank, entered, enteredAll, ledgerFrom}
 use Rattle.laws.specs.Told.{Applies, AllApply, told}
 
@@ -60,14 +61,14 @@ entries-balanced n (e ∷ es) a b l z p h =
     let w = entry-balanced n e a (p .0) l z (p .1) h in
     entries-balanced n es (p .0) b (entered n e l) (w .1) (p .2) (w .0)
 
+-- The chip after inputs that are run one after another is well formed.
+pub run-fits : (n : ℕ) (inputs : List Input) (c : Chip) (out : List ℕ) → Fits n c → Fits n (runOf n inputs c out .chip)
+unfolding runOf
+run-fits n [] c out w = w
+run-fits n (i ∷ is) c out w = run-fits n is (stepOf n i c out .chip) (stepOf n i c out .output) (keeps n c w i out)
+
 -- Over any list of inputs, from a chip and a ledger that balance.
 module _ (n : ℕ) (small : n ≤ 128) where
-  -- the chip after inputs that are run one after another is well formed
-  pub run-fits : (inputs : List Input) (c : Chip) (out : List ℕ) → Fits n c → Fits n (runOf n inputs c out .chip)
-  unfolding runOf
-  run-fits [] c out w = w
-  run-fits (i ∷ is) c out w = run-fits is (stepOf n i c out .chip) (stepOf n i c out .output) (keeps n c w i out)
-
   run-balanced : (inputs : List Input) (c : Chip) (out : List ℕ) (l : Ledger) → Fits n c → Balanced (c .pool .pages) l → Balanced (runOf n inputs c out .chip .pool .pages) (ledgerFrom n inputs c out l)
   unfolding runOf ledgerFrom
   run-balanced [] c out l w h = h
@@ -81,6 +82,6 @@ module _ (n : ℕ) (small : n ≤ 128) where
       → length (free (runOf n inputs (powered n) out .chip)) + ledgerFrom n inputs (powered n) out (blank n) .granted ≡ n + ledgerFrom n inputs (powered n) out (blank n) .back
   balances inputs out =
       let c = runOf n inputs (powered n) out .chip in
-      let w = run-fits inputs (powered n) out (powered-fits n) in
+      let w = run-fits n inputs (powered n) out (powered-fits n) in
       let b = run-balanced inputs (powered n) out (blank n) (powered-fits n) (record { holds = lengths-none n; even = omega (arith, total-none n) }) in
       omega (arith, b .even, free-and-total (length (c .pool .pages)) (c .pool .pages) (rw (w .0 .count) (w .0 .pages)), w .0 .count)

@@ -1,9 +1,8 @@
 -- The worked example of document 01: its ten records from power-up give its ten lines.
 use mathlib.Core.Path.{_≡_, refl}
 use mathlib.Core.List.{List, [], _∷_, _++_}
-use Prim.Native.Nat.{ℕ}
+use Prim.Native.Nat.{ℕ, _-_}
 use lib.ListN.{replicate, length}
-use Prim.Native.Nat.{_-_}
 use Rattle.rules.specs.Bits.{bit, flag, lowByte, highByte, wordOf}
 use Rattle.rules.specs.Lists.{member, some?, owned, unless, freeBelow, firstEmpty}
 use Rattle.rules.specs.Tests.{above, ascends, allBelow, apart, noneOwned, pagesGood, queueGood, queuesGood, numbersGood, formed, fit}

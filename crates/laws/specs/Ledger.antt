@@ -1,5 +1,5 @@
--- The page ledger: what a driver can know of the pages granted and given back, counted since power-up or the last soft or MMU reset,
--- and the free count that MIR then reads. Nothing here looks at a page list or a free count: only at registers, at queue ends, at lengths and at replies.
+-- The page ledger: what a driver can know of the pages granted and given back, counted since power-up or the last soft or MMU reset.
+-- Nothing here looks at a page list or a free count: only at registers, at the ends of RX and TX (which a driver knows from what it enqueued and drained), at lengths and at replies.
 use mathlib.Core.Bool.{cond}
 use mathlib.Core.List.{List, [], _∷_}
 use Prim.Native.Nat.{ℕ, _+_}

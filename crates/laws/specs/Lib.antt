@@ -17,5 +17,5 @@ pub mod Exchange
 pub mod Loads
 pub mod Merge
 pub mod Needed
--- The demands at the chip of document 01.
+-- Demands 2 and 3 at the chip of document 01.
 pub mod Theorems

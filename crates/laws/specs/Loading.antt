@@ -24,11 +24,11 @@ offset (write w o v) = o
 abbrev pub reached : Access → Chip → Register
 reached a c = registerAt (c .regs .numbers .bank) (offset a)
 
--- "receive bit clear"
+-- Demand 3: "receive bit clear throughout".
 abbrev pub Clear : Chip → Type 0
 Clear c = rcv (c .regs .pointer) ≡ false
 
--- "bank selections and accesses to packet number, pointer and data, each data access on a packet allocated before the run"
+-- Demand 3: "bank selections and accesses to packet number, pointer and data (.. each data access on a packet allocated before the run)".
 pub data Load (start now : Chip) (a : Access) : Type 0 where
   toBank : reached a now ≡ BANK → Load start now a
   toPacket : reached a now ≡ PACKET → Load start now a

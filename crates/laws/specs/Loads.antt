@@ -11,7 +11,7 @@ use Rattle.laws.specs.Reception.{reception, receive, kept, frame-is, fra
 use Rattle.laws.specs.Loading.{Clear, Load, toBank, toPacket, toPointer, toData, load-writes}
 use Rattle.laws.specs.Exchange.{exchange}
 
--- "a run of bank selections and accesses to packet number, pointer and data (receive bit clear throughout, each data access on a packet allocated before the run)":
+-- Demand 3: "a run of bank selections and accesses to packet number, pointer and data (receive bit clear throughout, each data access on a packet allocated before the run)":
 -- from the chip before the run, and the chip that it has come to
 abbrev pub Loads : Chip → Chip → List Access → Type 0
 Loads start now [] = Clear now

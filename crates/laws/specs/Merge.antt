@@ -1,4 +1,4 @@
--- "Loading and reception do not disturb each other": a run of loads, merged in any way with arriving frames, ends in the same registers, queues and memory with the same answers.
+-- Demand 3, "Loading and reception do not disturb each other": a run of loads, merged in any way with arriving frames, ends in the same registers, queues and memory with the same answers.
 use mathlib.Core.Path.{_≡_, refl, ap, ap₂, sym, subst, _∙_}
 use mathlib.Core.List.{List, [], _∷_, _++_, map}
 use Prim.Native.Nat.{ℕ}
@@ -9,8 +9,8 @@ use Rattle.rules.specs.Answers.{Reply, Turn}
 use Rattle.rules.specs.Registers.{Access, access}
 use Rattle.rules.specs.Receive.{Frame, arrive}
 use Rattle.rules.specs.Step.{Input, driver, frame, serve, stepOf, behind, runOf}
-use Rattle.wellformed.specs.Fit.{step-fit}
-use Rattle.wellformed.specs.Keeps.{Fits, keeps}
+use Rattle.wellformed.specs.Fit.{Fits, step-fit}
+use Rattle.wellformed.specs.Keeps.{keeps}
 use Rattle.laws.specs.Exchange.{Exchanged, exchange}
 use Rattle.laws.specs.Loads.{Loads, loads-after-load, loads-after-frame}
 
@@ -43,7 +43,7 @@ module _ (n : ℕ) where
 
   module _ (out : List ℕ) where
     served : (i : Input) (c : Chip) (loads : List Access) → Ready c loads → stepOf n i c out ≡ serve i c out
-    served i c loads r = step-fit n i c out (r .fits .1) (r .fits .0)
+    served i c loads r = step-fit n i c out (r .fits)
 
     runs : (i : Input) (is : List Input) (c : Chip) (loads : List Access) → Ready c loads
         → runOf n (i ∷ is) c out ≡ behind (serve i c out .reply) (runOf n is (serve i c out .chip) (serve i c out .output))

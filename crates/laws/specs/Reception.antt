@@ -49,29 +49,29 @@ bare r q = record { regs = r; pool = q; memory = [] }
 abbrev nothingStored : Reply → ℕ → Bool → Pool → Reception
 nothingStored x y b q = record { reply = x; rcr = y; overrun = b; pool = q; image = []; pages = [] }
 
-abbrev value : ℕ → Reply
-value v = record { number = 0; value = v }
+abbrev answering : ℕ → Reply
+answering v = record { number = 0; value = v }
 
 unfoldable pub judged : Arrival → Frame → Registers → Pool → Reception
 judged stored f r q = record {
-  reply = value (valueFor stored);
+  reply = answering (valueFor stored);
   rcr = r .receiving .rcr;
   overrun = false;
   pool = stow f (bare r q) .pool;
   image = image f (dataLength r (length (f .bytes)));
   pages = take (needed r (length (f .bytes))) (free (bare r q));
 }
-judged disabled f r q = nothingStored (value (valueFor disabled)) (r .receiving .rcr) false q
-judged notAccepted f r q = nothingStored (value (valueFor notAccepted)) (r .receiving .rcr) false q
-judged tooLong f r q = nothingStored (value (valueFor tooLong)) (abort r .receiving .rcr) false q
-judged bad f r q = nothingStored (value (valueFor bad)) (r .receiving .rcr) false q
-judged noRoom f r q = nothingStored (value (valueFor noRoom)) (abort r .receiving .rcr) true q
+judged disabled f r q = nothingStored (answering (valueFor disabled)) (r .receiving .rcr) false q
+judged notAccepted f r q = nothingStored (answering (valueFor notAccepted)) (r .receiving .rcr) false q
+judged tooLong f r q = nothingStored (answering (valueFor tooLong)) (abort r .receiving .rcr) false q
+judged bad f r q = nothingStored (answering (valueFor bad)) (r .receiving .rcr) false q
+judged noRoom f r q = nothingStored (answering (valueFor noRoom)) (abort r .receiving .rcr) true q
 
 -- from registers and pool alone: a frame reads no byte of memory
 unfoldable pub reception : Frame → Registers → Pool → Reception
 reception f r q = cond (ltb (length (f .bytes)) 18) (nothingStored (refusal 11) (r .receiving .rcr) false q) (judged (judge r (length (free (bare r q))) f) f r q)
 
--- a step that is a reception
+-- an effect that is a reception
 abbrev pub Received : Effect → Reception → Chip → Type 0
 Received s x c = s ≡ record { reply = x .reply; chip = receive x c }
 
@@ -155,7 +155,7 @@ module _ (f : Frame) (r : Registers) (q : Pool) where
     fits = rw length-take (omega (arith, h, image-fits f (dataLength r len)));
   }
 
-  -- A frame writes RCR, RX_OVRN, the pages of an unallocated number, RX, and memory in pages that were free.
+  -- Of the pool a frame writes the pages of the lowest unallocated number and RX; of memory, pages that were free.
   pub frame-writes : Spares q (reception f r q)
   unfolding reception judged judge
   frame-writes = early (ltb len 18)

@@ -99,14 +99,14 @@ module _ (c : Chip) where
     unfolding sendHead
     sends s = by-send c out (HonestTurn c out) (λ k. refuses (suc k)) s (λ k rest e f. answers refl)
 
-    steps-on : (i : Input) → HonestTurn c out (serve i c out)
+    serves : (i : Input) → HonestTurn c out (serve i c out)
     unfolding serve
-    steps-on (driver a) = leaves (accesses a)
-    steps-on (frame f) = leaves (arrives f)
-    steps-on (sent s) = sends s
+    serves (driver a) = leaves (accesses a)
+    serves (frame f) = leaves (arrives f)
+    serves (sent s) = sends s
 
     steps : (n : ℕ) (i : Input) → HonestTurn c out (stepOf n i c out)
-    steps n i = by-step c out (HonestTurn c out) (λ k. refuses (suc k)) n i (steps-on i)
+    steps n i = by-step c out (HonestTurn c out) (λ k. refuses (suc k)) n i (serves i)
 
 -- An honest turn with another number than 0 is the refusal of that number.
 honest-refuses : (c : Chip) (out : List ℕ) {t : Turn} → HonestTurn c out t → (t .reply .number ≡ 0 → ⊥) → t ≡ refused (t .reply .number) c out

@@ -26,7 +26,7 @@ pub step-well : (i : Input) (c : Chip) (out : List ℕ) → WellFormed c → len
 step-well i c out w m = keeps 24 c (w, m) i out
 
 pub history-well : (inputs : List Input) (out : List ℕ) → WellFormed (history inputs out .chip) × (length (history inputs out .chip .memory) ≡ 6144)
-history-well inputs out = run-fits 24 (omega arith) inputs powerUp out (powered-fits 24)
+history-well inputs out = run-fits 24 inputs powerUp out (powered-fits 24)
 
 -- After each step from a well-formed chip every page is free or in exactly one packet, at one place of its list.
 pub pages-accounted : (i : Input) (c : Chip) (out : List ℕ) → WellFormed c → length (c .memory) ≡ 6144 → (p : ℕ) → p < 24 → IsFree (step i c out .chip) p ⊎ InOne (step i c out .chip) p
@@ -38,7 +38,7 @@ unfolding serve access registerAt misplaced lanesAt bit readRegister taken wordO
 mir-read c out w m b =
     let few : length (free c) ≤ 24 = omega (arith, free-and-total (size c) (c .pool .pages) (rw (w .count) (w .pages)), w .count) in
     let shown : (size c + length (free c) * 256) / 256 % 256 ≡ length (free c) = omega (arith, w .count) in
-    step-fit 24 (driver (read byte 9)) c out m w ∙ ap (λ (x : ℕ). leaving out (readRegister (registerAt x 9) (lanesAt byte 9) c)) b ∙ ap (λ (x : ℕ). leaving out (doneWith x c)) shown
+    step-fit 24 (driver (read byte 9)) c out (w, m) ∙ ap (λ (x : ℕ). leaving out (readRegister (registerAt x 9) (lanesAt byte 9) c)) b ∙ ap (λ (x : ℕ). leaving out (doneWith x c)) shown
 
 -- the driver's ledger of a history from power-up
 abbrev pub ledgerOf : List Input → List ℕ → Ledger

@@ -22,7 +22,8 @@ use Rattle.lists.specs.Facts.{member-first}
 use Rattle.wellformed.specs.Pages.{first-empty}
 use Rattle.wellformed.specs.Cases.{pick, pick-by, by-head, by-idle, by-packet, by-tests, by-lanes, by-read, by-send, by-step}
 use Rattle.wellformed.specs.Pool.{has-small, number-free}
-use Rattle.wellformed.specs.Keeps.{Fits, Valid, decode-valid}
+use Rattle.wellformed.specs.Fit.{Fits}
+use Rattle.wellformed.specs.Keeps.{Valid, decode-valid}
 use Rattle.wellformed.specs.Frames.{storable, needs-one}
 use Rattle.laws.specs.Ledger.{Entry, grants, returns, restarts, just, lastOf, commandEntries, writeEntries, inputEntries, entriesOf}
 
@@ -51,6 +52,7 @@ headOf-first k ks = refl
 abbrev Reads : Type 0
 Reads = ℕ → Chip → List Entry
 
+-- (n is at most 128, so that no packet number reads 80h)
 module _ (n : ℕ) (small : n ≤ 128) (c : Chip) (w : Fits n c) where
   abbrev Told : Reads → Reply → Chip → Type 0
   Told e r d = AllApply n (cond (eqb (r .number) 0) (e (r .value) d) []) (c .pool .pages) (d .pool .pages)
@@ -182,13 +184,13 @@ module _ (n : ℕ) (small : n ≤ 128) (c : Chip) (w : Fits n c) where
   told-send : (s : Send) (out : List ℕ) → ToldSend s (finish s c out)
   told-send s out = by-send c out (ToldSend s) (no (λ x d. inputEntries (sent s) c x d)) s (λ k rest e f. told-head s k rest out e)
 
-  told-on : (i : Input) (out : List ℕ) → AllApply n (entriesOf i c (serve i c out)) (c .pool .pages) (serve i c out .chip .pool .pages)
+  told-serve : (i : Input) (out : List ℕ) → AllApply n (entriesOf i c (serve i c out)) (c .pool .pages) (serve i c out .chip .pool .pages)
   unfolding serve entriesOf
-  told-on (driver a) out = told-access a out
-  told-on (frame f) out = told-arrive f
-  told-on (sent s) out = told-send s out
+  told-serve (driver a) out = told-access a out
+  told-serve (frame f) out = told-arrive f
+  told-serve (sent s) out = told-send s out
 
   -- The entries of a step tell what it does to the page lists.
   pub told : (i : Input) (out : List ℕ) → AllApply n (entriesOf i c (stepOf n i c out)) (c .pool .pages) (stepOf n i c out .chip .pool .pages)
   unfolding entriesOf
-  told i out = by-step c out (λ (t : Turn). AllApply n (entriesOf i c t) (c .pool .pages) (t .chip .pool .pages)) (no (inputEntries i c)) n i (told-on i out)
+  told i out = by-step c out (λ (t : Turn). AllApply n (entriesOf i c t) (c .pool .pages) (t .chip .pool .pages)) (no (inputEntries i c)) n i (told-serve i out)

@@ -17,8 +17,8 @@ pub fn least(a: usize, b: usize) -> usize
     if a < b { a } else { b }
 }
 
-// Writes the bytes over the front of the part that it is lent, and leaves the rest of it. LLVM makes vector moves of the loop, 32 bytes a turn, with
-// no test of an index, also where it stands inlined in `store_frame` and `copy_out` (seen with objdump in a static library).
+// Writes the bytes over the front of the part that it is lent, and leaves the rest of it. The compiler makes a `memcpy` or
+// vector moves of the loop, with no test of an index, also where it stands inlined in `store_frame` and `copy_out`.
 pub fn fill_part(part: &mut [u8], bytes: &[u8])
     requires { ⌜ length (now bytes) ≤ length (now part) ⌝ }
     ensures { λ _. ⌜ now (part .exit) ≡ over (now (bytes .entry)) (now (part .entry)) ⌝ }

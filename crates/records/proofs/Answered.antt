@@ -13,7 +13,7 @@ use Rattle.records.specs.declared.gather.Gathering.the-variants.{More, R
 use Rattle.records.specs.Gathers.{Gathers, holding}
 
 abbrev Refuses : ℕ → List ℕ → List ℕ → Type 0
-Refuses count bytes had = (c : Chip) (out : List ℕ) → gather count bytes (holding c had out) ≡ record { reply = refusal 11; bench = holding c had out }
+Refuses count bytes had = (c : Chip) (out : List ℕ) → gather count bytes (holding c had out) ≡ record { reply = refusal 11; after = holding c had out }
 
 module _ (count : ℕ) (bytes had : List ℕ) where
   pub too-few : count < 1 → Refuses count bytes had
@@ -29,7 +29,7 @@ module _ (count : ℕ) (bytes had : List ℕ) where
   too-long h k l c out = rw (le-leb 1 count h, le-leb count 6 k, lt-leb (length had + count) 2048 l)
 
   gathers : 1 ≤ count → count ≤ 6 → length had + count ≤ 2048 → (c : Chip) (out : List ℕ)
-      → gather count bytes (holding c had out) ≡ record { reply = done; bench = holding c (had ++ take count bytes) out }
+      → gather count bytes (holding c had out) ≡ record { reply = done; after = holding c (had ++ take count bytes) out }
   unfolding gather
   gathers h k l c out = rw (le-leb 1 count h, le-leb count 6 k, le-leb (length had + count) 2048 l)
 
@@ -46,7 +46,7 @@ module _ (wire : List ℕ) (have : ℕ) (bytes : List ℕ) (count : ℕ) where
       record {
         rule = λ c out.
             gathers count (drop 2 bytes) (take have wire) h k (omega (arith, f)) c out
-            ∙ ap (λ (x : List ℕ). record { reply = done; bench = holding c x out }) (sym (ap (take (have + count)) e ∙ take-paste wire have (drop 2 bytes) count n m));
+            ∙ ap (λ (x : List ℕ). record { reply = done; after = holding c x out }) (sym (ap (take (have + count)) e ∙ take-paste wire have (drop 2 bytes) count n m));
         room = l;
         rest = ap (drop (have + count)) e ∙ drop-paste wire have (drop 2 bytes) count n m;
       }

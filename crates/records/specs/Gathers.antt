@@ -25,6 +25,6 @@ holding c bytes out = record { chip = c; gathered = bytes; output = out }
 -- stand beside it; no more than 2,048; and every byte behind stays.
 pub record Gathers (wire : List ℕ) (have : ℕ) (bytes : List ℕ) (count : ℕ) (after : List ℕ) (g : Gathering) : Type 0 where
   pub rule : (c : Chip) (out : List ℕ)
-      → gather count (drop 2 bytes) (holding c (take have wire) out) ≡ record { reply = replyTo g; bench = holding c (take (held have g) after) out }
+      → gather count (drop 2 bytes) (holding c (take have wire) out) ≡ record { reply = replyTo g; after = holding c (take (held have g) after) out }
   pub room : held have g ≤ 2048
   pub rest : drop (held have g) after ≡ drop (held have g) wire

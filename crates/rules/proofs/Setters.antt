@@ -1,4 +1,4 @@
--- Each setter of `Fields` changes its own field and no other: one table, computed.
+-- Each setter of a register, and of a field of the pool, changes its own field and no other: a table of each, computed.
 use mathlib.Core.Path.{_≡_, refl}
 use mathlib.Core.Bool.{Bool}
 use mathlib.Core.List.{List, [], _∷_, map}

@@ -1,4 +1,5 @@
--- Document 01's plausible slips, each ruled out by a short law of the rules. (A must-fail edit reaches its own crate only, so these stand here and not in `laws`.)
+-- Short laws beside the definitions, one for each wrong model of must-fail/: four of document 01's plausible slips, and others. (The other two slips, adjacent pages and bytes after a frame, are
+-- edits of `packet`. An edit reaches its own crate only, so these laws stand here and not in `laws`.)
 use mathlib.Core.Path.{_≡_, refl}
 use mathlib.Core.Bool.{Bool, true, false, cond}
 use mathlib.Core.List.{List, [], _∷_}
@@ -20,7 +21,7 @@ use Rattle.rules.specs.Receive.{Frame, stored, countOf, needed, image, a
 use Rattle.rules.specs.Send.{Send, good, autoRelease, tally, counted, nibble, sendHead}
 use Rattle.rules.specs.Step.{driver, serve, stepOf, runOf, history}
 
--- 80h gives back the pages of the RX head and of no other packet, whatever the packet number register says.
+-- 80h leaves the pages of every packet but the RX head, whatever the packet number register says.
 pub head-alone : (c : Chip) (k : ℕ) (ks : List ℕ) → c .pool .rx ≡ k ∷ ks → (j : ℕ) → (j ≡ k → ⊥) → pagesAt (perform removeAndRelease c .chip) j ≡ pagesAt c j
 unfolding perform
 head-alone c k ks e j d = rw e (getD-set-other (c .pool .pages) k j [] [] d)
@@ -44,7 +45,7 @@ pub result-has : (c : Chip) (n : ℕ) → n ≤ length (free c) → firstEmpty (
 unfolding perform
 result-has c n h k = rw (le-leb n (length (free c)) h) (getD-set-same (c .pool .pages) (firstEmpty (c .pool .pages)) (take n (free c)) [] k)
 
--- A stored frame takes free pages, and no page of another packet.
+-- A stored frame's packet has the lowest free pages, as many as it needs.
 pub stored-in-free : (f : Frame) (c : Chip) → firstEmpty (c .pool .pages) < size c → pagesAt (after stored f c) (firstEmpty (c .pool .pages)) ≡ take (needed (c .regs) (length (f .bytes))) (free c)
 unfolding after
 stored-in-free f c k = getD-set-same (c .pool .pages) (firstEmpty (c .pool .pages)) (take (needed (c .regs) (length (f .bytes))) (free c)) [] k
@@ -58,7 +59,7 @@ sent-leaves-tx s k rest c out = either (autoRelease (good (c .regs .sending .tcr
     either true x y p q = p
     either false x y p q = q
 
--- A word's lower byte comes first.
+-- A word is made again of its low byte and its high byte.
 pub word-again : (x : ℕ) → x < 65536 → wordOf (lowByte x) (highByte x) ≡ x
 unfolding wordOf lowByte highByte
 word-again x h = omega arith
@@ -78,7 +79,7 @@ pub failed-single : (s : Send) (ecr : ℕ) → s .collisions ≡ 1 → s .deferr
 unfolding tally counted
 failed-single s ecr a b = rw (a, b)
 
--- The first answer is no refusal and not 0, and the next is that of the chip after it: the bank is read, then bank 2 is selected and its queue heads are read.
+-- The first value is not 0, and each answer is that of the chip after the inputs before it: the bank is read, then bank 2 is selected and its queue heads are read.
 pub answers-go-on : (out : List ℕ) → history (driver (read word 14) ∷ driver (write byte 14 2) ∷ driver (read word 4) ∷ []) out .replies
     ≡ record { number = 0; value = 0x3300 } ∷ record { number = 0; value = 0 } ∷ record { number = 0; value = 0x8080 } ∷ []
 unfolding runOf stepOf fit formed pagesGood ascends allBelow noneOwned numbersGood queuesGood queueGood apart serve access misplaced bit registerAt lanesAt readRegister writeRegister taken lowOnly wordOf headOf

@@ -19,7 +19,7 @@ pub record Turn : Type 0 where
   pub chip : Chip
   pub output : List ℕ
 
--- 0, done, with a value
+-- 0, done: an effect with a value; an effect with value 0 ("A write returns value 0."); a reply
 abbrev pub doneWith : ℕ → Chip → Effect
 doneWith v c = record { reply = record { number = 0; value = v }; chip = c }
 
@@ -29,6 +29,7 @@ did c = doneWith 0 c
 abbrev pub done : Reply
 done = record { number = 0; value = 0 }
 
+-- a refusal as a reply, an effect and a turn
 abbrev pub refusal : ℕ → Reply
 refusal n = record { number = n; value = 0 }
 
@@ -42,6 +43,6 @@ refused n c out = record { reply = refusal n; chip = c; output = out }
 abbrev pub leaving : List ℕ → Effect → Turn
 leaving out e = record { reply = e .reply; chip = e .chip; output = out }
 
--- a buffer with bytes written over its front
+-- a buffer with bytes written over its front; its other bytes stay
 abbrev pub over : List ℕ → List ℕ → List ℕ
 over bytes buffer = bytes ++ drop (length bytes) buffer

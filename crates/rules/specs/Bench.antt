@@ -11,7 +11,7 @@ use Rattle.rules.specs.Registers.{Access, read, write, byte, word}
 use Rattle.rules.specs.Send.{Send}
 use Rattle.rules.specs.Step.{Input, driver, frame, sent, step}
 
--- what a record asks for
+-- what a record asks for (an "event" of refusal 11 is a frame or a send)
 pub data Event : Type 0 where
   access : Access → Event
   -- byte 1's count, and the wire bytes behind it
@@ -28,7 +28,7 @@ at bytes k = getD bytes k 0
 abbrev pub valueIn : List ℕ → ℕ
 valueIn bytes = wordOf (at bytes 2) (at bytes 3)
 
--- "Byte 0: 1 read byte, 2 read word, 3 write byte, 4 write word (offset, value low, high); 5 wire bytes", "6 frame ends", "7 send (outcome, collisions, deferral)"
+-- "Byte 0: 1 read byte, 2 read word, 3 write byte, 4 write word (offset, value low, high); 5 wire bytes", "6 frame ends", "7 send (outcome, collisions, deferral)"; "Unused bytes are ignored."
 unfoldable pub eventOf : List ℕ → Event
 eventOf b =
     cond (eqb (at b 0) 1) (access (read byte (at b 1)))
@@ -45,22 +45,23 @@ pub record Bench : Type 0 where
   pub gathered : List ℕ
   pub output : List ℕ
 
+-- it "starts from power-up"; the output buffer has 2,048 bytes, so 15 is never given
 abbrev pub started : Bench
 started = record { chip = powerUp; gathered = []; output = replicate 2048 0 }
 
 pub record Answered : Type 0 where
   pub reply : Reply
-  pub bench : Bench
+  pub after : Bench
 
 -- a step of the chip, with the wire bytes that are gathered after it
 abbrev pub asStep : Input → List ℕ → Bench → Answered
-asStep i left b = let t = step i (b .chip) (b .output) in record { reply = t .reply; bench = record { chip = t .chip; gathered = left; output = t .output } }
+asStep i left b = let t = step i (b .chip) (b .output) in record { reply = t .reply; after = record { chip = t .chip; gathered = left; output = t .output } }
 
 -- "count 1 to 6, then bytes; 11 if the count is wrong or more than 2,048 would gather"
 unfoldable pub gather : ℕ → List ℕ → Bench → Answered
 gather count bytes b =
-    cond (not (leb 1 count && leb count 6 && leb (length (b .gathered) + count) 2048)) (record { reply = refusal 11; bench = b })
-    (record { reply = done; bench = record { chip = b .chip; gathered = b .gathered ++ take count bytes; output = b .output } })
+    cond (not (leb 1 count && leb count 6 && leb (length (b .gathered) + count) 2048)) (record { reply = refusal 11; after = b })
+    (record { reply = done; after = record { chip = b .chip; gathered = b .gathered ++ take count bytes; output = b .output } })
 
 unfoldable pub answer : Event → Bench → Answered
 answer (access a) b = asStep (driver a) (b .gathered) b
@@ -68,10 +69,10 @@ answer (wire count bytes) b = gather count bytes b
 -- "gathering emptied whatever the answer"
 answer (frameEnds crc align) b = asStep (frame (record { bytes = b .gathered; badCrc = crc; alignment = align })) [] b
 answer (send s) b = asStep (sent s) (b .gathered) b
--- "record cut short or of unknown kind"
-answer unknown b = record { reply = refusal 17; bench = b }
+-- "record cut short or of unknown kind": "A 17 prints its line and the run goes on."
+answer unknown b = record { reply = refusal 17; after = b }
 
--- a number's decimal digits as characters: at most n + 1 of them
+-- the n lowest decimal digits of a number, as characters; a number x has at most x + 1
 unfoldable pub decimalIn : ℕ → ℕ → List ℕ
 decimalIn zero x = []
 decimalIn (suc n) x = cond (ltb x 10) ((0x30 + x) ∷ []) (decimalIn n (x / 10) ++ ((0x30 + x % 10) ∷ []))
@@ -86,19 +87,19 @@ hexDigit d = cond (ltb d 10) (0x30 + d) (0x57 + d)
 unfoldable pub hex4 : ℕ → List ℕ
 hex4 x = hexDigit (x / 4096 % 16) ∷ hexDigit (x / 256 % 16) ∷ hexDigit (x / 16 % 16) ∷ hexDigit (x % 16) ∷ []
 
--- "Each line: record number from 1, answer, value (0 if none) as four lower-case hex digits."
+-- "Each line: record number from 1, answer, value (0 if none) as four lower-case hex digits." "Bytes put out by a send are not printed."
 unfoldable pub line : ℕ → Reply → List ℕ
 line number r = decimal number ++ (0x20 ∷ decimal (r .number)) ++ (0x20 ∷ hex4 (r .value)) ++ (0x0a ∷ [])
 
 -- what is printed for the records in the input, from record number k on; a tail of 1 to 7 bytes is one line with 17
--- (one turn for each record, of which there are no more than bytes)
+-- (n bounds the records, of which there are no more than bytes)
 unfoldable pub printed : ℕ → ℕ → List ℕ → Bench → List ℕ
 printed zero k input b = []
 printed (suc n) k [] b = []
 printed (suc n) k (x ∷ xs) b =
     cond (ltb (length (x ∷ xs)) 8) (line k (refusal 17))
-    (let a = answer (eventOf (take 8 (x ∷ xs))) b in line k (a .reply) ++ printed n (k + 1) (drop 8 (x ∷ xs)) (a .bench))
+    (let a = answer (eventOf (take 8 (x ∷ xs))) b in line k (a .reply) ++ printed n (k + 1) (drop 8 (x ∷ xs)) (a .after))
 
--- what the program prints for its standard input: it "starts from power-up"
+-- what the program prints for its standard input
 abbrev pub bench : List ℕ → List ℕ
 bench input = printed (length input) 1 input started

@@ -75,7 +75,7 @@ free c = freeBelow (size c) (c .pool .pages)
 abbrev pub allocated : ℕ → Chip → Bool
 allocated k c = some? (pagesAt c k)
 
--- "Reset values: no packets, FIFOs empty, all 0 but allocation result 80h and TX EMPTY set."
+-- "Reset values: .. all 0 but allocation result 80h and TX EMPTY set." A soft reset keeps the station address.
 abbrev pub resetRegisters : List ℕ → Registers
 resetRegisters station = record {
   sending = record { tcr = 0; ephsr = 0; ecr = 0; txEmpty = true };
@@ -86,6 +86,7 @@ resetRegisters station = record {
   mask = 0;
 }
 
+-- "no packets, FIFOs empty"
 abbrev pub emptyPool : ℕ → Pool
 emptyPool n = record { pages = replicate n []; rx = []; tx = []; completion = [] }
 

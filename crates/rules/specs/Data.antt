@@ -24,10 +24,11 @@ reading p = bit 13 p
 unfoldable pub address : ℕ → ℕ
 address p = p % 2048
 
--- "With AUTO INCR the address grows by the width, modulo 2,048; other bits stay."
+-- "grows by the width, modulo 2,048; other bits stay"
 unfoldable pub advance : ℕ → ℕ → ℕ
 advance width p = p / 2048 * 2048 + (p % 2048 + width) % 2048
 
+-- "With AUTO INCR the address grows by the width"
 unfoldable pub next : ℕ → ℕ → ℕ
 next width p = cond (autoIncr p) (advance width p) p
 
@@ -52,6 +53,7 @@ ifOpen isRead width pages c e =
     let p = c .regs .pointer in
     cond (against isRead p) (refuse 8 c) (cond (oddFixed p) (refuse 9 c) (cond (past width p pages) (refuse 10 c) e))
 
+-- "Read-back gives the address that the next access uses"
 abbrev pub moved : ℕ → Chip → Chip
 moved width c = inRegisters (setPointer (next width (c .regs .pointer))) c
 

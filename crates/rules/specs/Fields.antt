@@ -1,4 +1,4 @@
--- One field replaced: of the registers, of the pool, of the chip. `proofs/Setters` shows that each leaves every other field.
+-- One field replaced, of the registers and of the pool (`proofs/Setters`: each leaves every other field); then a change of one part of the chip.
 use mathlib.Core.Bool.{Bool}
 use mathlib.Core.List.{List}
 use Prim.Native.Nat.{ℕ}

@@ -7,14 +7,15 @@ use Rattle.rules.specs.Lists.{some?}
 use Rattle.rules.specs.Chip.{Registers, Chip}
 use Rattle.rules.specs.Fields.{setTxEmpty, setOverrun, setCompletion, inRegisters, inPool}
 
--- what a read of EPHSR shows
+-- EPHSR as a read shows it: as it is stored
 abbrev pub shownEphsr : Registers → ℕ
 shownEphsr r = r .sending .ephsr
 
--- "EPH is (EPHSR bit 12 and control bit 6) or (any of EPHSR 15, 10, 9, 5, 4 while bit 0 is clear, and control bit 5)."
+-- "any of EPHSR 15, 10, 9, 5, 4 while bit 0 is clear"
 unfoldable pub failed : ℕ → Bool
 failed e = (bit 15 e || bit 10 e || bit 9 e || bit 5 e || bit 4 e) && not (bit 0 e)
 
+-- "EPH is (EPHSR bit 12 and control bit 6) or (any of EPHSR 15, 10, 9, 5, 4 while bit 0 is clear, and control bit 5)."
 unfoldable pub eph : Registers → Bool
 eph r = (bit 12 (r .sending .ephsr) && bit 6 (r .control)) || (failed (r .sending .ephsr) && bit 5 (r .control))
 

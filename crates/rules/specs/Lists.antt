@@ -19,7 +19,7 @@ unfoldable pub owned : ℕ → List (List ℕ) → Bool
 owned p [] = false
 owned p (l ∷ ls) = member p l || owned p ls
 
--- a list of the one number, or nothing
+-- x alone, unless the test holds
 unfoldable pub unless : Bool → ℕ → List ℕ
 unless true x = []
 unless false x = x ∷ []

@@ -20,7 +20,7 @@ pub data Command : Type 0 where
   resetTx : Command
   unknown : Command
 
--- the command that a value written to the MMU command register asks for
+-- the command that a value written to the MMU command register asks for (v / 8 is 4 for 20h to 27h)
 unfoldable pub decode : ℕ → Command
 decode v =
     cond (eqb v 0x00) nothing
@@ -32,11 +32,11 @@ decode v =
     (cond (eqb v 0xc0) enqueue
     (cond (eqb v 0xe0) resetTx unknown)))))))
 
--- "The result is the lowest unallocated number, and pages are the lowest free ones."
+-- "the lowest unallocated number"
 abbrev pub lowestNumber : Chip → ℕ
 lowestNumber c = firstEmpty (c .pool .pages)
 
--- the lowest unallocated number gets the n lowest free pages
+-- that number gets n pages: "pages are the lowest free ones"
 abbrev pub allot : ℕ → Chip → Chip
 allot n c = inPool (setPages (set (c .pool .pages) (lowestNumber c) (take n (free c)))) c
 
@@ -44,7 +44,7 @@ allot n c = inPool (setPages (set (c .pool .pages) (lowestNumber c) (take n (fre
 abbrev pub giveBack : ℕ → Chip → Chip
 giveBack k c = inPool (setPages (set (c .pool .pages) k [])) c
 
--- an allocation that is granted: the result names the packet
+-- an allocation that is granted: "The result is the lowest unallocated number"
 abbrev pub grant : ℕ → Chip → Chip
 grant n c = inRegisters (setResult (lowestNumber c)) (allot n c)
 
@@ -61,24 +61,25 @@ abbrev pub ifHead : Chip → List ℕ → (ℕ → List ℕ → Effect) → Effe
 ifHead c [] f = refuse 7 c
 ifHead c (k ∷ ks) f = f k ks
 
+-- "No command touches a latch."
 unfoldable pub perform : Command → Chip → Effect
--- 00h nothing
+-- "00h nothing."
 perform nothing c = did c
--- 20h to 27h allocate 1 to 8 pages: done exactly when that many are free, else the result reads 80h
+-- "20h to 27h allocate 1 to 8 pages: done exactly when that many are free, else the result reads 80h (command still answers 0)."
 perform (allocate n) c = cond (leb n (length (free c))) (did (grant n c)) (did (inRegisters (setResult 0x80) c))
--- 40h frees all pages, empties all FIFOs, sets the result to 80h
+-- "40h frees all pages, empties all FIFOs, sets the result to 80h."
 perform reset c = did (inRegisters (setResult 0x80) (inPool (λ q. emptyPool (size c)) c))
--- 60h removes the RX head
+-- "60h removes the RX head"
 perform removeRx c = ifHead c (c .pool .rx) (λ k ks. did (inPool (setRx ks) c))
--- 80h removes the RX head and releases it
+-- "80h removes and releases it"
 perform removeAndRelease c = ifHead c (c .pool .rx) (λ k ks. did (giveBack k (inPool (setRx ks) c)))
--- A0h releases the packet in the packet number register
+-- "A0h releases the packet in the packet number register"
 perform release c = ifIdle c (did (giveBack (c .regs .numbers .packet) c))
--- C0h appends it to TX
+-- "C0h appends it to TX"
 perform enqueue c = ifIdle c (did (inPool (setTx (c .pool .tx ++ (c .regs .numbers .packet ∷ []))) c))
--- E0h empties TX and completion, frees nothing
+-- "E0h empties TX and completion, frees nothing."
 perform resetTx c = did (inPool (λ q. setCompletion [] (setTx [] q)) c)
--- other values: 4
+-- "Other values: 4."
 perform unknown c = refuse 4 c
 
 -- a write of v to the MMU command register

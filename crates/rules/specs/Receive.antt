@@ -21,13 +21,14 @@ pub record Frame : Type 0 where
 abbrev pub destination : Frame → List ℕ
 destination f = take 6 (f .bytes)
 
--- kinds of destination address
+-- are two lists of bytes the same
 unfoldable pub sameBytes : List ℕ → List ℕ → Bool
 sameBytes [] [] = true
 sameBytes [] (y ∷ ys) = false
 sameBytes (x ∷ xs) [] = false
 sameBytes (x ∷ xs) (y ∷ ys) = eqb x y && sameBytes xs ys
 
+-- broadcast is six bytes FFh; a group address has its first wire bit set
 unfoldable pub broadcast : List ℕ → Bool
 broadcast a = sameBytes a (0xff ∷ 0xff ∷ 0xff ∷ 0xff ∷ 0xff ∷ 0xff ∷ [])
 
@@ -40,7 +41,9 @@ inTable table h = bit (h % 8) (getD table (h / 8) 0)
 
 -- "Accepted: RCR bit 1 (all); broadcast; group address with RCR bit 2, or with its table bit set; the station address."
 unfoldable pub accepted : Registers → List ℕ → Bool
-accepted r a = bit 1 (r .receiving .rcr) || broadcast a || (group a && (bit 2 (r .receiving .rcr) || inTable (r .receiving .table) (hash a))) || sameBytes a (r .receiving .station)
+accepted r a =
+    let x = r .receiving in
+    bit 1 (x .rcr) || broadcast a || (group a && (bit 2 (x .rcr) || inTable (x .table) (hash a))) || sameBytes a (x .station)
 
 -- "n is the length, less 4 when RCR bit 9 is set."
 unfoldable pub dataLength : Registers → ℕ → ℕ
@@ -106,17 +109,18 @@ image f n =
     lowByte (frameStatus f n) ∷ highByte (frameStatus f n) ∷ lowByte (countOf n) ∷ highByte (countOf n) ∷ (take n (f .bytes) ++ trailer n)
 
 -- "A stored frame takes the lowest unallocated number and the lowest free pages; the allocation result stays. The number goes to the end of RX."
--- "Later bytes of the last page stay."
+-- "Page k (k at least 1) holds the frame from byte 256k − 4 on": four bytes stand before it. "Later bytes of the last page stay."
 abbrev pub stow : Frame → Chip → Chip
 stow f c =
-    let pages = needed (c .regs) (length (f .bytes)) in
-    inMemory (putBytes (image f (dataLength (c .regs) (length (f .bytes)))) 0 (take pages (free c)))
-    (inPool (setRx (c .pool .rx ++ (lowestNumber c ∷ []))) (allot pages c))
+    let pageCount = needed (c .regs) (length (f .bytes)) in
+    inMemory (putBytes (image f (dataLength (c .regs) (length (f .bytes)))) 0 (take pageCount (free c)))
+    (inPool (setRx (c .pool .rx ++ (lowestNumber c ∷ []))) (allot pageCount c))
 
 -- RX_ABORT set
 abbrev pub abort : Registers → Registers
 abort r = setRcr (setBit 0 (r .receiving .rcr)) r
 
+-- 3: "RX_ABORT set", and it "does not set RX_OVRN"; 5: "RX_ABORT and RX_OVRN set"
 unfoldable pub after : Arrival → Frame → Chip → Chip
 after stored f c = stow f c
 after disabled f c = c

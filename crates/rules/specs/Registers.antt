@@ -142,12 +142,13 @@ writeInterrupt low v c = acknowledge (lowByte v) c
 writeInterrupt high v c = inRegisters (setMask (lowByte v)) c
 writeInterrupt both v c = inRegisters (setMask (highByte v)) (acknowledge (lowByte v) c)
 
--- refusal 3: "write in which every byte is read-only", where the high byte is
+-- refusal 3: "write in which every byte is read-only", where the high byte is; "a word write skips its read-only half"
 unfoldable pub lowOnly : Lanes → Chip → Effect → Effect
 lowOnly low c e = e
 lowOnly high c e = refuse 3 c
 lowOnly both c e = e
 
+-- p: the lanes that the access reaches
 unfoldable pub readRegister : Register → Lanes → Chip → Effect
 readRegister TCR p c = doneWith (taken p (c .regs .sending .tcr)) c
 readRegister EPHSR p c = doneWith (taken p (shownEphsr (c .regs))) c
@@ -170,6 +171,7 @@ readRegister BANK p c = doneWith (taken p (wordOf (c .regs .numbers .bank) 0x33)
 readRegister UNUSED p c = doneWith (taken p 0x3333) c
 readRegister ABSENT p c = refuse 2 c
 
+-- "Bits without a rule here are stored, read back and do nothing."
 unfoldable pub writeRegister : Register → Lanes → ℕ → Chip → Effect
 writeRegister TCR p v c = did (inRegisters (λ r. writeTcr (merged p v (r .sending .tcr)) r) c)
 writeRegister EPHSR p v c = refuse 3 c
@@ -199,6 +201,9 @@ pub data Access : Type 0 where
   -- width, offset, value
   write : Width → ℕ → ℕ → Access
 
+-- "accesses 16, 1, 2, 3": 16 is in `Step`, 2 and 3 are in each register
 unfoldable pub access : Access → Chip → Effect
-access (read w offset) c = cond (misplaced w offset) (refuse 1 c) (readRegister (registerAt (c .regs .numbers .bank) offset) (lanesAt w offset) c)
-access (write w offset v) c = cond (misplaced w offset) (refuse 1 c) (writeRegister (registerAt (c .regs .numbers .bank) offset) (lanesAt w offset) v c)
+access (read w offset) c =
+    cond (misplaced w offset) (refuse 1 c) (readRegister (registerAt (c .regs .numbers .bank) offset) (lanesAt w offset) c)
+access (write w offset v) c =
+    cond (misplaced w offset) (refuse 1 c) (writeRegister (registerAt (c .regs .numbers .bank) offset) (lanesAt w offset) v c)

@@ -25,15 +25,11 @@ inLimits s = leb (s .outcome) 5 && cond (eqb (s .outcome) 1) (eqb (s .collisions
 
 -- refusal 13: the count "must be even, at least 12, within the pages"
 unfoldable pub usable : ℕ → ℕ → Bool
-usable count pages = not (bit 0 count) && leb 12 count && leb count (256 * pages)
+usable count pageCount = not (bit 0 count) && leb 12 count && leb count (256 * pageCount)
 
 -- "Count c at addresses 2 and 3, low byte first"
 unfoldable pub byteCount : List ℕ → List ℕ → ℕ
 byteCount pages memory = wordAt 0 (getBytes 2 2 pages memory)
-
--- "Outcome 3 is good unless TCR bit 10 is set and bit 15 clear; 4 is good .. unless TCR bit 12 is set."
-unfoldable pub good : ℕ → ℕ → Bool
-good tcr outcome = eqb outcome 0 || (eqb outcome 3 && not (bit 10 tcr && not (bit 15 tcr))) || (eqb outcome 4 && not (bit 12 tcr))
 
 -- "Data: from 4, c − 5 bytes if bit 5 of the byte at c − 1 is set, else c − 6."
 unfoldable pub sendLength : ℕ → ℕ → ℕ
@@ -43,20 +39,25 @@ sendLength count last = cond (bit 5 last) (count - 5) (count - 6)
 unfoldable pub padded : ℕ → List ℕ → List ℕ
 padded tcr bytes = cond (bit 7 tcr) (bytes ++ replicate (60 - length bytes) 0) bytes
 
--- the byte at c − 1, the packet's control byte
+-- the byte at c − 1 (the sheet's control byte, not the control register)
 unfoldable pub controlByte : ℕ → List ℕ → List ℕ → ℕ
 controlByte count pages memory = getD (getBytes 1 (count - 1) pages memory) 0 0
 
+-- "The value is the length put out; all other output bytes stay, and failed sends put out the same bytes."
 unfoldable pub putOut : ℕ → ℕ → List ℕ → List ℕ → List ℕ
 putOut tcr count pages memory = padded tcr (getBytes (sendLength count (controlByte count pages memory)) 4 pages memory)
 
--- "failed 1 to 5, bit 4, 9, 10, 5, 15"
+-- "Outcome 3 is good unless TCR bit 10 is set and bit 15 clear; 4 is good .. unless TCR bit 12 is set."
+unfoldable pub good : ℕ → ℕ → Bool
+good tcr outcome = eqb outcome 0 || (eqb outcome 3 && not (bit 10 tcr && not (bit 15 tcr))) || (eqb outcome 4 && not (bit 12 tcr))
+
+-- "failed 1 to 5, bit 4, 9, 10, 5, 15" (place 0 is for no outcome)
 unfoldable pub failureBit : ℕ → ℕ
 failureBit outcome = getD (0 ∷ 4 ∷ 9 ∷ 10 ∷ 5 ∷ 15 ∷ []) outcome 0
 
 -- "on failure bit 1 for one collision, 2 for more"
 unfoldable pub collisionBits : ℕ → ℕ
-collisionBits collisions = cond (eqb collisions 1) 2 (cond (ltb 1 collisions) 4 0)
+collisionBits collisions = cond (eqb collisions 1) (2 ^ 1) (cond (ltb 1 collisions) (2 ^ 2) 0)
 
 -- "good, bit 0" (4 "with EPHSR bit 5 also set"); "failed 1 to 5, .."
 unfoldable pub outcomeBits : Bool → Send → ℕ
@@ -101,7 +102,7 @@ unfoldable pub newEphsr : Bool → Send → List ℕ → Registers → ℕ
 newEphsr isGood s address r =
     outcomeBits isGood s + addressBits address + 2 ^ 12 * flag (bit 12 (r .sending .ephsr) || anyAt15 (tally isGood s (r .sending .ecr)))
 
--- "A failure clears TXENA."; "TX EMPTY is set if TX is now empty."
+-- the registers after it: EPHSR and ECR are new; "A failure clears TXENA."; "TX EMPTY is set if TX is now empty."
 abbrev pub sentRegisters : Bool → Send → List ℕ → Bool → Registers → Registers
 sentRegisters isGood s address emptied r =
     inSending (λ x. record {

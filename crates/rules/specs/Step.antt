@@ -2,7 +2,7 @@
 use mathlib.Core.Bool.{cond, not}
 use mathlib.Core.List.{List, [], _∷_}
 use Prim.Native.Nat.{ℕ}
-use Rattle.rules.specs.Chip.{Chip, powered}
+use Rattle.rules.specs.Chip.{Chip, powerUp}
 use Rattle.rules.specs.Answers.{Reply, Turn, refused, leaving}
 use Rattle.rules.specs.Tests.{fit}
 use Rattle.rules.specs.Registers.{Access, access}
@@ -14,7 +14,7 @@ pub data Input : Type 0 where
   frame : Frame → Input
   sent : Send → Input
 
--- on a chip that is well formed
+-- on a chip that is well formed and has its memory
 unfoldable pub serve : Input → Chip → List ℕ → Turn
 serve (driver a) c out = leaving out (access a c)
 serve (frame f) c out = leaving out (arrive f c)
@@ -45,4 +45,4 @@ run = runOf 24
 
 -- a history: from power-up, with any output buffer
 abbrev pub history : List Input → List ℕ → Ran
-history inputs out = run inputs (powered 24) out
+history inputs out = run inputs powerUp out

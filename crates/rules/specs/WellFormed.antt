@@ -42,11 +42,11 @@ pub record GoodQueues (n : ℕ) (ls : List (List ℕ)) (rx tx completion : List 
   pub txDistinct : Distinct tx
   -- "no packet is in both"
   pub notBoth : (k : ℕ) → member k rx ≡ true → member k tx ≡ false
-  -- "completion has at most 24 entries, each 0 to 23"
+  -- "completion has at most 24 entries, each 0 to 23"; "Completion entries may name freed packets"
   pub completionFew : length completion ≤ n
   pub completionNumbers : (k : ℕ) → member k completion ≡ true → k < n
 
--- what holds of the registers
+-- what holds of the registers' numbers
 pub record GoodNumbers (n : ℕ) (r : Numbers) : Type 0 where
   -- "the bank is 0 to 7"
   pub bankSmall : r .bank < 8
@@ -57,12 +57,13 @@ pub record GoodNumbers (n : ℕ) (r : Numbers) : Type 0 where
 
 -- all clauses, over what they speak of: a step that leaves these leaves the chip well formed
 pub record Clauses (n : ℕ) (r : Numbers) (q : Pool) : Type 0 where
-  -- packets are numbered 0 to 23
+  -- "Packets are numbered 0 to 23": a page list for each
   pub count : length (q .pages) ≡ n
   pub pages : GoodPages n (q .pages)
   pub numbers : GoodNumbers n r
   pub queues : GoodQueues n (q .pages) (q .rx) (q .tx) (q .completion)
 
+-- the clauses of registers and pool; of a chip with n pages; of the chip of document 01
 abbrev pub Formed : ℕ → Registers → Pool → Type 0
 Formed n r q = Clauses n (r .numbers) q
 

@@ -23,7 +23,7 @@ ghost use Rattle.state.specs.View.{view, Ready};
 ghost use Rattle.sending.specs.Numbers.{sendOf};
 ghost use Rattle.sending.specs.Sends.{Sends};
 
-// The TX head is sent: refusals 13 and 14, and else all that a send does.
+// The TX head is sent (the rules' `ifSendable`): refusals 13 and 14, and else all that a send does.
 fn send_head(
     r: Registers,
     map: [[Page; 8]; 24],

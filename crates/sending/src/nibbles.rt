@@ -19,7 +19,7 @@ pub fn counted(on: bool, x: u16) -> u16
     if x < 15 { x + 1 } else { 15 }
 }
 
-// A failed send after one collision counts in none.
+// A failed send after one collision counts in neither nibble of collisions.
 pub fn tallied(good: bool, s: Send, ecr: u16) -> Tally
     ensures { λ r. ⌜ (tallyOf r ≡ rules.tally good (sendOf s) ecr) × Small r ⌝ }
 {

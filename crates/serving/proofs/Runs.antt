@@ -66,7 +66,7 @@ one-more n n′ k input b bytes {r} {m} {mem} {wire} {have} {out} i q h a t w j 
     ap₂ (λ (l : List ℕ) (d : Bench). answer (eventOf l) d) q (a .bench) in
     rw i (record {
       held = t .held;
-      bench = t .bench ∙ ap (λ (z : Answered). z .bench) e;
+      bench = t .bench ∙ ap (λ (z : Answered). z .after) e;
       text = taken h w ∙ ap₂ (λ (p q : List ℕ). p ++ q) (a .text) (ap₂ line (a .counted) (t .reply ∙ ap (λ (z : Answered). z .reply) e));
       counted = omega (arith, a .counted, j);
     })

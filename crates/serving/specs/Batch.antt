@@ -17,7 +17,7 @@ recordAt n input = take 8 (drop (8 * n) input)
 -- the bench after the first n records
 unfoldable pub benchAfter : ℕ → List ℕ → Bench → Bench
 benchAfter zero input b = b
-benchAfter (suc n) input b = answer (eventOf (recordAt n input)) (benchAfter n input b) .bench
+benchAfter (suc n) input b = answer (eventOf (recordAt n input)) (benchAfter n input b) .after
 
 -- and the lines printed for them, of which the first has number k
 unfoldable pub linesFor : ℕ → ℕ → List ℕ → Bench → List ℕ

@@ -20,12 +20,12 @@ record-later n input =
     let e : 8 * suc n ≡ 8 + 8 * n = omega arith in
     ap (λ (i : ℕ). take 8 (drop i input)) e ∙ ap (take 8) (sym (drop-drop (8 * n) 8 input))
 
-bench-later : (n : ℕ) (input : List ℕ) (b : Bench) → benchAfter (suc n) input b ≡ benchAfter n (drop 8 input) (first input b .bench)
+bench-later : (n : ℕ) (input : List ℕ) (b : Bench) → benchAfter (suc n) input b ≡ benchAfter n (drop 8 input) (first input b .after)
 unfolding benchAfter
 bench-later zero input b = refl
-bench-later (suc n) input b = ap₂ (λ (l : List ℕ) (d : Bench). answer (eventOf l) d .bench) (record-later n input) (bench-later n input b)
+bench-later (suc n) input b = ap₂ (λ (l : List ℕ) (d : Bench). answer (eventOf l) d .after) (record-later n input) (bench-later n input b)
 
-lines-later : (n k : ℕ) (input : List ℕ) (b : Bench) → linesFor (suc n) k input b ≡ line k (first input b .reply) ++ linesFor n (k + 1) (drop 8 input) (first input b .bench)
+lines-later : (n k : ℕ) (input : List ℕ) (b : Bench) → linesFor (suc n) k input b ≡ line k (first input b .reply) ++ linesFor n (k + 1) (drop 8 input) (first input b .after)
 unfolding benchAfter linesFor
 lines-later zero k input b = let e : k + 0 ≡ k = omega arith in rw (e, append-nil (line k (first input b .reply)))
 lines-later (suc n) k input b =
@@ -43,7 +43,7 @@ bench-joined (suc n) m input b =
     let g : suc n + m ≡ suc (n + m) = omega arith in
     ap (λ (i : ℕ). benchAfter i input b) g
     ∙ bench-later (n + m) input b
-    ∙ bench-joined n m (drop 8 input) (first input b .bench)
+    ∙ bench-joined n m (drop 8 input) (first input b .after)
     ∙ ap₂ (λ (l : List ℕ) (d : Bench). benchAfter m l d) (drop-drop (8 * n) 8 input ∙ ap (λ (i : ℕ). drop i input) (sym e)) (sym (bench-later n input b))
 
 pub lines-joined : (n m k : ℕ) (input : List ℕ) (b : Bench) → linesFor (n + m) k input b ≡ linesFor n k input b ++ linesFor m (k + n) (drop (8 * n) input) (benchAfter n input b)
@@ -59,10 +59,10 @@ lines-joined (suc n) m k input b =
     let l = line k (first input b .reply) in
     ap (λ (i : ℕ). linesFor i k input b) g
     ∙ lines-later (n + m) k input b
-    ∙ ap (λ (x : List ℕ). l ++ x) (lines-joined n m (k + 1) (drop 8 input) (first input b .bench))
-    ∙ sym (append-assoc l (linesFor n (k + 1) (drop 8 input) (first input b .bench)) _)
+    ∙ ap (λ (x : List ℕ). l ++ x) (lines-joined n m (k + 1) (drop 8 input) (first input b .after))
+    ∙ sym (append-assoc l (linesFor n (k + 1) (drop 8 input) (first input b .after)) _)
     ∙ ap₂ (λ (x y : List ℕ). x ++ y) (sym (lines-later n k input b))
-    (ap₂ (λ (i : ℕ) (r : List ℕ). linesFor m i r (benchAfter n (drop 8 input) (first input b .bench))) f (drop-drop (8 * n) 8 input ∙ ap (λ (i : ℕ). drop i input) (sym e))
+    (ap₂ (λ (i : ℕ) (r : List ℕ). linesFor m i r (benchAfter n (drop 8 input) (first input b .after))) f (drop-drop (8 * n) 8 input ∙ ap (λ (i : ℕ). drop i input) (sym e))
     ∙ ap (linesFor m (k + suc n) (drop (8 * suc n) input)) (sym (bench-later n input b)))
 
 -- the line of a record that the input's end cuts short after t bytes
@@ -93,7 +93,7 @@ prints-more fuel ih (suc n) t k (x ∷ xs) b h l f =
     let e : k + suc n ≡ k + 1 + n = omega arith in
     let d = length-drop 8 (x ∷ xs) in
     rw (le-ltb (length (x ∷ xs)) 8 (omega (arith, h)), printed)
-    (ap (λ (p : List ℕ). line k (first (x ∷ xs) b .reply) ++ p) (ih n t (k + 1) (drop 8 (x ∷ xs)) (first (x ∷ xs) b .bench) (omega (arith, h, d)) l (omega (arith, f, d)))
+    (ap (λ (p : List ℕ). line k (first (x ∷ xs) b .reply) ++ p) (ih n t (k + 1) (drop 8 (x ∷ xs)) (first (x ∷ xs) b .after) (omega (arith, h, d)) l (omega (arith, f, d)))
     ∙ sym (append-assoc (line k (first (x ∷ xs) b .reply)) _ (lastLine t (k + 1 + n)))
     ∙ ap₂ (λ (p : List ℕ) (i : ℕ). p ++ lastLine t i) (sym (lines-later n k (x ∷ xs) b)) (sym e))
 

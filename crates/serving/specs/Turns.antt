@@ -23,11 +23,11 @@ pub record Held (r : Registers) (m : List (List Page)) (mem wire : List ℕ) (ha
 -- x is returned, and memory, wire bytes and output are then these
 pub record Turns (a : rules.Answered) (x : Stepped) (mem wire : List ℕ) (have : ℕ) (out : List ℕ) : Type 0 where
   pub reply : replyOf (x .answer) ≡ a .reply
-  pub bench : holding (view (x .registers) (x .pages) mem) (take have wire) out ≡ a .bench
+  pub bench : holding (view (x .registers) (x .pages) mem) (take have wire) out ≡ a .after
   pub held : Held (x .registers) (x .pages) mem wire have
 
 -- wire bytes are gathered: for any chip and output beside them the rules' `gather` says this
 pub record Gathered (wire : List ℕ) (have : ℕ) (bytes : List ℕ) (count : ℕ) (a : Answer) (wire′ : List ℕ) (have′ : ℕ) : Type 0 where
-  pub rule : (c : Chip) (out : List ℕ) → gather count (drop 2 bytes) (holding c (take have wire) out) ≡ record { reply = replyOf a; bench = holding c (take have′ wire′) out }
+  pub rule : (c : Chip) (out : List ℕ) → gather count (drop 2 bytes) (holding c (take have wire) out) ≡ record { reply = replyOf a; after = holding c (take have′ wire′) out }
   pub room : length wire′ ≡ 2048
   pub few : have′ ≤ 2048

@@ -1,4 +1,4 @@
--- What the walk of `step_on` knows of `Stepped`. The walk takes the struct apart in a local, so its machine value is written out field by field; those of the registers and of the pages stay names (`Regs.antt`, `Pages.antt`).
+-- What the walks of `make_stepped` and `pages_of` know of `Stepped`. The walk takes the struct apart in a local, so its machine value is written out field by field; those of the registers and of the pages stay names (`Regs.antt`, `Pages.antt`).
 --     value, tells     the machine value, and that the struct's relation tells it.        typed, makes     the relation gives that it has the struct's MIR type, and what the struct owns
 --     registers        what the relation says of the registers
 -- `typed` assumes `Given`.

@@ -1,4 +1,4 @@
--- Going by the cases of the rules: what holds of each outcome holds of the test that chooses it, and what every refusal has, a step has.
+-- Going by the cases of the rules: what holds of each outcome holds of the test that chooses it; and what every refusal has, and what is done has, the step has.
 use mathlib.Core.Path.{_≡_, refl}
 use mathlib.Core.Bool.{Bool, true, false, cond, not}
 use mathlib.Core.List.{List, [], _∷_}

@@ -149,17 +149,20 @@ formed-decides n c =
     (λ w. record { count = w .0 .0 .0; pages = w .0 .0 .1; numbers = w .0 .1; queues = w .1 })
     (λ f. (((f .count, f .pages), f .numbers), f .queues))
 
--- what refusal 16 asks
-pub fit-decides : (n : ℕ) (c : Chip) → Decides (fit n c) ((length (c .memory) ≡ 256 * n) × FormedAt n c)
+-- what refusal 16 asks of a chip with n pages
+abbrev pub Fits : ℕ → Chip → Type 0
+Fits n c = FormedAt n c × (length (c .memory) ≡ 256 * n)
+
+pub fit-decides : (n : ℕ) (c : Chip) → Decides (fit n c) (Fits n c)
 unfolding fit
-fit-decides n c = eq-decides (length (c .memory)) (256 * n) and formed-decides n c
+fit-decides n c = agrees (eq-decides (length (c .memory)) (256 * n) and formed-decides n c) (λ w. (w .1, w .0)) (λ w. (w .1, w .0))
 
 -- So a step on such a chip goes by its input, and on any other is refusal 16.
 module _ (n : ℕ) (i : Input) (c : Chip) (out : List ℕ) where
-  pub step-fit : length (c .memory) ≡ 256 * n → FormedAt n c → stepOf n i c out ≡ serve i c out
+  pub step-fit : Fits n c → stepOf n i c out ≡ serve i c out
   unfolding stepOf
-  step-fit m f = rw (fit-decides n c .complete (m, f))
+  step-fit w = rw (fit-decides n c .complete w)
 
-  pub step-unfit : ((length (c .memory) ≡ 256 * n) × FormedAt n c → ⊥) → stepOf n i c out ≡ refused 16 c out
+  pub step-unfit : (Fits n c → ⊥) → stepOf n i c out ≡ refused 16 c out
   unfolding stepOf
   step-unfit h = rw (if-not (fit n c) (λ t. h (fit-decides n c .sound t)))

@@ -29,9 +29,9 @@ unfolding needed pagesFor
 needs-seven r len h = omega (arith, count-high (dataLength r len), data-short r len)
 
 -- what the judgement says of a stored frame
-pub record Storable (r : Registers) (free : ℕ) (f : Frame) : Type 0 where
+pub record Storable (r : Registers) (freePages : ℕ) (f : Frame) : Type 0 where
   pub short : length (f .bytes) ≤ 1532
-  pub room : needed r (length (f .bytes)) + r .receiving .reserved ≤ free
+  pub room : needed r (length (f .bytes)) + r .receiving .reserved ≤ freePages
 
 pub storable : (r : Registers) (free : ℕ) (f : Frame) → judge r free f ≡ stored → Storable r free f
 unfolding judge valueFor

@@ -14,7 +14,7 @@ use Rattle.rules.specs.Lists.{member, some?, firstEmpty}
 use Rattle.rules.specs.Chip.{Registers, Chip, size, free, powered, powerUp}
 use Rattle.rules.specs.Fields.{setRx, setCompletion, inRegisters, inPool, inMemory}
 use Rattle.rules.specs.Answers.{Effect, Turn, refuse}
-use Rattle.rules.specs.WellFormed.{Distinct, Formed, FormedAt, WellFormed}
+use Rattle.rules.specs.WellFormed.{Distinct, Formed, WellFormed}
 use Rattle.rules.specs.Packet.{putBytes}
 use Rattle.rules.specs.Mmu.{Command, nothing, allocate, reset, removeRx, removeAndRelease, release, enqueue, resetTx, unknown, decode, perform, allot}
 use Rattle.rules.specs.Interrupts.{acknowledge}
@@ -26,12 +26,9 @@ use Rattle.rules.specs.Step.{Input, driver, frame, sent, serve, stepOf}
 use Rattle.lists.specs.Bytes.{length-put}
 use Rattle.lists.specs.Facts.{if-not, member-first}
 use Rattle.wellformed.specs.Cases.{pick, pick-by, by-head, by-idle, by-packet, by-tests, by-lanes, by-read, by-send, by-step}
+use Rattle.wellformed.specs.Fit.{Fits}
 use Rattle.wellformed.specs.Frames.{storable, needs-one, needs-seven}
-use Rattle.wellformed.specs.Pool.{has-small, given-back, number-free, number-not-rx, number-not-tx, given, rx-popped, rx-joined, tx-popped, tx-joined, done-joined, done-popped, tx-and-done-emptied, with-bank, with-packet, with-result, reset-numbers, beside, emptied}
-
--- what refusal 16 asks of a chip with n pages
-abbrev pub Fits : ℕ → Chip → Type 0
-Fits n c = FormedAt n c × (length (c .memory) ≡ 256 * n)
+use Rattle.wellformed.specs.Pool.{has-small, given-back, number-free, number-not-rx, number-not-tx, given, rx-popped, rx-joined, tx-popped, tx-joined, completion-joined, completion-popped, tx-and-completion-emptied, with-bank, with-packet, with-result, reset-numbers, beside, emptied}
 
 -- Pages that are taken from enough are some.
 some-taken : (m : ℕ) → 1 ≤ m → (l : List ℕ) → m ≤ length l → some? (take m l) ≡ true
@@ -69,7 +66,7 @@ module _ (n : ℕ) where
     no : (k : ℕ) → Kept (refuse (suc k) c)
     no k = w
 
-    -- The RX head k is in range, and not in TX nor again in RX.
+    -- The RX head is in range.
     head-small : (k : ℕ) (ks : List ℕ) → c .pool .rx ≡ k ∷ ks → k < n
     head-small k ks e = omega (arith, has-small (c .pool .pages) k (w .0 .queues .rxAllocated k (rw e (member-first k ks))), w .0 .count)
 
@@ -100,7 +97,7 @@ module _ (n : ℕ) where
           w .1,
         ))
     keeps-perform enqueue v = by-idle c Kept no _ (λ a r t. (tx-joined (w .0) (c .regs .numbers .packet) a r t, w .1))
-    keeps-perform resetTx v = (tx-and-done-emptied (w .0), w .1)
+    keeps-perform resetTx v = (tx-and-completion-emptied (w .0), w .1)
     keeps-perform unknown v = w
 
     -- Data accesses: only the pointer and bytes of memory change.
@@ -116,7 +113,7 @@ module _ (n : ℕ) where
     pub keeps-read : (r : Register) (p : Lanes) → Kept (readRegister r p c)
     keeps-read = by-read c Kept no (λ v. w) (λ v. w) keeps-read-data
 
-    -- A soft reset, and nothing else, empties the pool.
+    -- Of the writes to RCR only a soft reset changes the pool.
     keeps-rcr : (x : ℕ) → Fits n (writeRcr x c)
     unfolding writeRcr
     keeps-rcr x = pick (Fits n) (bit 15 x) (rw (w .0 .count) (emptied n (reset-numbers n)), w .1) w
@@ -127,7 +124,7 @@ module _ (n : ℕ) where
 
     keeps-acknowledge : (v : ℕ) → Fits n (acknowledge v c)
     keeps-acknowledge v = (
-      pick (λ (l : List ℕ). Formed n (c .regs) (setCompletion l (c .pool))) (bit 1 v) (done-popped (w .0)) (w .0),
+      pick (λ (l : List ℕ). Formed n (c .regs) (setCompletion l (c .pool))) (bit 1 v) (completion-popped (w .0)) (w .0),
       w .1,
     )
 
@@ -164,7 +161,7 @@ module _ (n : ℕ) where
     keeps-access (write wide o v) = pick Kept (misplaced wide o) w (keeps-write (registerAt (c .regs .numbers .bank) o) (lanesAt wide o) v)
 
     -- A stored frame: its number has pages, and joins RX.
-    module _ (f : Frame) (m : ℕ) (least : 1 ≤ m) (most : m ≤ 8) (room : m ≤ length (free c)) where
+    module _ (m : ℕ) (least : 1 ≤ m) (most : m ≤ 8) (room : m ≤ length (free c)) where
       pub keeps-stowed : (bytes pages : List ℕ) → Fits n (inMemory (putBytes bytes 0 pages) (inPool (setRx (c .pool .rx ++ (firstEmpty (c .pool .pages) ∷ []))) (allot m c)))
       keeps-stowed bytes pages =
           let k = firstEmpty (c .pool .pages) in
@@ -181,7 +178,7 @@ module _ (n : ℕ) (c : Chip) (w : Fits n c) where
   keeps-after stored f e =
       let s = storable (c .regs) (length (free c)) f e in
       let len = length (f .bytes) in
-      keeps-stowed n c w f (needed (c .regs) len) (needs-one (c .regs) len) (omega (arith, needs-seven (c .regs) len (s .short))) (omega (arith, s .room)) _ _
+      keeps-stowed n c w (needed (c .regs) len) (needs-one (c .regs) len) (omega (arith, needs-seven (c .regs) len (s .short))) (omega (arith, s .room)) _ _
   keeps-after disabled f e = w
   keeps-after notAccepted f e = w
   keeps-after tooLong f e = w
@@ -204,30 +201,30 @@ module _ (n : ℕ) (c : Chip) (w : Fits n c) where
       let p = tx-popped (w .0) k rest e in
       pick-by (Fits n) (autoRelease (good (c .regs .sending .tcr) (s .outcome)) (c .regs))
       (λ a. (given-back p k u (λ x. true≢false (sym m ∙ q .notBoth k x)) (λ x. true≢false (sym x ∙ d .0)), length-put _ 0 _ (c .memory) ∙ w .1))
-      (λ a. (done-joined p k u (f a), length-put _ 0 _ (c .memory) ∙ w .1))
+      (λ a. (completion-joined p k u (f a), length-put _ 0 _ (c .memory) ∙ w .1))
 
   abbrev Turned : Turn → Type 0
   Turned t = Fits n (t .chip)
 
-  open-done : (a full : Bool) → not a && full ≡ false → a ≡ false → full ≡ false
-  open-done true full e f = absurd (true≢false f)
-  open-done false full e f = e
+  open-place : (a b : Bool) → not a && b ≡ false → a ≡ false → b ≡ false
+  open-place true b e f = absurd (true≢false f)
+  open-place false b e f = e
 
   pub keeps-send : (s : Send) (out : List ℕ) → Turned (finish s c out)
   keeps-send s out =
       by-send c out Turned (λ k. w) s
       (λ k rest e f. keeps-head s k rest out e
-      (λ b. omega (arith, leb-false (size c) (length (c .pool .completion)) (open-done (autoRelease (good (c .regs .sending .tcr) (s .outcome)) (c .regs)) _ f b), w .0 .count)))
+      (λ b. omega (arith, leb-false (size c) (length (c .pool .completion)) (open-place (autoRelease (good (c .regs .sending .tcr) (s .outcome)) (c .regs)) _ f b), w .0 .count)))
 
-  keeps-on : (i : Input) (out : List ℕ) → Turned (serve i c out)
+  keeps-serve : (i : Input) (out : List ℕ) → Turned (serve i c out)
   unfolding serve
-  keeps-on (driver a) out = keeps-access n c w a
-  keeps-on (frame f) out = keeps-arrive f
-  keeps-on (sent s) out = keeps-send s out
+  keeps-serve (driver a) out = keeps-access n c w a
+  keeps-serve (frame f) out = keeps-arrive f
+  keeps-serve (sent s) out = keeps-send s out
 
   -- Every step.
   pub keeps : (i : Input) (out : List ℕ) → Turned (stepOf n i c out)
-  keeps i out = by-step c out Turned (λ k. w) n i (keeps-on i out)
+  keeps i out = by-step c out Turned (λ k. w) n i (keeps-serve i out)
 
 -- Power-up.
 pub powered-fits : (n : ℕ) → Fits n (powered n)

@@ -4,7 +4,7 @@ pub mod Cases
 -- Pages: good lists stay good, and free pages with owned ones are all of them.
 pub mod Pages
 pub mod Count
--- Refusal 16 is given exactly where a chip is not well formed.
+-- Refusal 16 is given exactly where the memory has another length or the chip is not well formed.
 pub mod Fit
 -- Each step keeps a chip well formed; power-up is.
 pub mod Pool

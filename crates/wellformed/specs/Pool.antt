@@ -138,7 +138,7 @@ module _ {n : ℕ} {r : Numbers} {q : Pool} (w : Clauses n r q) where
   requeued : (rx tx completion : List ℕ) → GoodQueues n (q .pages) rx tx completion → Good (record { pages = q .pages; rx = rx; tx = tx; completion = completion })
   requeued rx tx completion g = record { count = w .count; pages = w .pages; numbers = w .numbers; queues = g }
 
-  -- The pages of a packet that is in neither queue become l, which ascends, is short, and has pages that no other packet has.
+  -- A packet in neither queue gets other pages, with which the page lists are good.
   repaged : (k : ℕ) (l : List ℕ) → k < n → (member k (q .rx) ≡ true → ⊥) → (member k (q .tx) ≡ true → ⊥) → GoodPages n (set (q .pages) k l) → Good (setPages (set (q .pages) k l) q)
   repaged k l h r t g = record {
     count = length-set (q .pages) k l ∙ w .count;
@@ -194,18 +194,18 @@ module _ {n : ℕ} {r : Numbers} {q : Pool} (w : Clauses n r q) where
   tx-joined k a r t =
       requeued (q .rx) (q .tx ++ (k ∷ [])) (q .completion) (turned n (q .pages) (q .tx ++ (k ∷ [])) (q .rx) (q .completion) (joined n (q .pages) (q .tx) (q .rx) (q .completion) other-way k a t r))
 
-  pub done-joined : (k : ℕ) → k < n → length (q .completion) < n → Good (setCompletion (q .completion ++ (k ∷ [])) q)
-  done-joined k h f =
+  pub completion-joined : (k : ℕ) → k < n → length (q .completion) < n → Good (setCompletion (q .completion ++ (k ∷ [])) q)
+  completion-joined k h f =
       requeued (q .rx) (q .tx) (q .completion ++ (k ∷ []))
       (completed n (q .pages) (q .rx) (q .tx) (q .completion) (w .queues) (q .completion ++ (k ∷ [])) (simp length-append (omega (arith, f))) (joined-small n (q .completion) (w .queues .completionNumbers) k h))
 
-  pub done-popped : Good (setCompletion (drop 1 (q .completion)) q)
-  done-popped =
+  pub completion-popped : Good (setCompletion (drop 1 (q .completion)) q)
+  completion-popped =
       requeued (q .rx) (q .tx) (drop 1 (q .completion))
       (completed n (q .pages) (q .rx) (q .tx) (q .completion) (w .queues) (drop 1 (q .completion)) (simp length-drop (omega (arith, w .queues .completionFew))) (λ j m. w .queues .completionNumbers j (member-drop (q .completion) j m)))
 
-  pub tx-and-done-emptied : Good (setCompletion [] (setTx [] q))
-  tx-and-done-emptied =
+  pub tx-and-completion-emptied : Good (setCompletion [] (setTx [] q))
+  tx-and-completion-emptied =
       requeued (q .rx) [] []
       (completed n (q .pages) (q .rx) [] (q .completion) (unsent n (q .pages) (q .rx) (q .tx) (q .completion) (w .queues)) [] (omega arith) (λ j m. nobody j m))
 

@@ -1,4 +1,4 @@
--- `chip::make_stepped` meets its contract: a walk of its MIR, by hand. The three parameters are passed into locals, the struct is built of them in the result's local, and returned.
+-- `state::make_stepped` meets its contract: a walk of its MIR, by hand. The three parameters are passed into locals, the struct is built of them in the result's local, and returned.
 -- The machine values of the parameters are three variables, `va`, `vr` and `vp`: all that is known of each is its type's relation. So no line below depends on what the fields' types hold.
 -- Assumes nothing.
 use mathlib.Core.Path.{refl}

@@ -1,4 +1,4 @@
--- `chip::pages_of` meets its contract: a walk of its MIR, by hand. The struct is passed into a local, and the field is read from there.
+-- `state::pages_of` meets its contract: a walk of its MIR, by hand. The struct is passed into a local, and the field is read from there.
 -- The fields' machine values are three variables, `va`, `vr` and `vp`: all that is known of them is the struct's relation, and the field's. So no line below depends on what the fields' types hold.
 -- Assumes nothing.
 use mathlib.Core.Path.{refl}
