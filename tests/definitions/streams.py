@@ -29,7 +29,7 @@ print(
     "replies : ℕ → List ℕ → Bench → List ℕ",
     "replies zero input b = []",
     "replies (suc n) input b =",
-    "    let a = Bench·answer (Bench·eventOf (take 8 input)) b in (a .reply .number * 65536 + a .reply .value) ∷ replies n (drop 8 input) (a .bench)",
+    "    let a = Bench·answer (Bench·eventOf (take 8 input)) b in (a .reply .number * 65536 + a .reply .value) ∷ replies n (drop 8 input) (a .after)",
     sep="\n",
 )
 
