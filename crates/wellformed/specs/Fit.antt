@@ -17,7 +17,7 @@ use Rattle.lists.specs.Each.{Each, each-member, member-each, members}
 use Rattle.lists.specs.Owned.{owned-none, owned-in}
 use Rattle.wellformed.specs.Count.{good-rest}
 
-below-decides : (n : ℕ) (l : List ℕ) → Decides (allBelow n l) (Each (λ k. k < n) l)
+pub below-decides : (n : ℕ) (l : List ℕ) → Decides (allBelow n l) (Each (λ k. k < n) l)
 unfolding allBelow
 below-decides n [] = always tt
 below-decides n (x ∷ xs) = lt-decides x n and below-decides n xs

@@ -1,0 +1,3 @@
+-- Queues in lent parts.
+pub mod Slots
+pub mod Parts
