@@ -1,19 +1,13 @@
 // Runs steps below the public entries over and over, so that what they cost can be measured. Standard input, up to 4,096 bytes, is
 // records of 8 bytes: those of document 01 for reads and writes, and byte 0 = 6 for a frame of 1,518 bytes that arrives. Any other
 // does nothing. The records are answered 100 times over, and the sum of the answers' values is printed.
-use chip::Write;
-use chip::write_of;
 use libc::STDIN_FILENO;
 use libc::STDOUT_FILENO;
-use registers::Width;
 use state::Answer;
-use state::Registers;
-use state::Stepped;
-use state::Touched;
-use store::Page;
+use state::Width;
 ghost use Prim.Native.Nat.{_/_, _<_};
 ghost use lib.ListN.{length};
-ghost use Rattle.state.specs.Promise.{InOrder};
+ghost use Rattle.state.specs.Entry.{InOrder};
 
 const ROUNDS: u64 = 100;
 
@@ -50,85 +44,69 @@ fn add(sum: &mut u64, answer: Answer) {
     *sum = std::num::wrapping_add_u64(*sum, shown.1 as u64);
 }
 
-fn add_touched(sum: &mut u64, t: Touched) {
-    let answer = t.answer;
-    add(sum, answer);
-}
-
-fn add_stepped(sum: &mut u64, s: Stepped) {
-    let answer = s.answer;
-    add(sum, answer);
+// What one record does.
+fn answer_one(
+    words: &mut [u16],
+    sets: &mut [u32],
+    queues: &mut [u8],
+    memory: &mut [u8],
+    frame: &[u8],
+    record: Record,
+) -> Answer
+    requires { ⌜ InOrder (now words) (now sets) (now queues) (now memory) ⌝ }
+    ensures { λ _. ⌜ InOrder (now (words .exit)) (now (sets .exit)) (now (queues .exit)) (now (memory .exit)) ⌝ }
+{
+    let kind = record.kind;
+    match kind {
+        1 | 2 => chip::read(words, sets, queues, memory, width_of(kind), record.offset),
+        3 | 4 => chip::write(
+            words,
+            sets,
+            queues,
+            memory,
+            width_of(kind),
+            record.offset,
+            record.value,
+        ),
+        6 => chip::arrived(words, sets, queues, memory, frame, false, false),
+        _ => Answer::Done(0),
+    }
 }
 
 // Each complete record of the input, once.
 fn answer_all(
-    r: Registers,
-    map: [[Page; 8]; 24],
+    words: &mut [u16],
+    sets: &mut [u32],
+    queues: &mut [u8],
     memory: &mut [u8],
     frame: &[u8],
     input: &[u8],
     sum: &mut u64,
-) -> Stepped
-    requires { ⌜ InOrder r map (now memory) ⌝ }
-    ensures { λ s. ⌜ InOrder (s .registers) (s .pages) (now (memory .exit)) ⌝ }
+)
+    requires { ⌜ InOrder (now words) (now sets) (now queues) (now memory) ⌝ }
+    ensures { λ _. ⌜ InOrder (now (words .exit)) (now (sets .exit)) (now (queues .exit)) (now (memory .exit)) ⌝ }
 {
-    let mut registers = r;
-    let mut pages = map;
     for k in 0..input.len() / 8 {
         let record = record_at(input, k);
-        let kind = record.kind;
-        match kind {
-            1 | 2 => {
-                let t = chip::read(registers, pages, memory, width_of(kind), record.offset);
-                registers = t.registers;
-                add_touched(sum, t);
-            }
-            3 | 4 => {
-                let write = write_of(registers.bank, width_of(kind), record.offset, record.value);
-                match write {
-                    Write::Still(still) => {
-                        let t = chip::write_still(still, registers, pages, memory);
-                        registers = t.registers;
-                        add_touched(sum, t);
-                    }
-                    Write::Moving(moving) => {
-                        let s = chip::write_moving(moving, registers, pages);
-                        registers = s.registers;
-                        pages = state::pages_of(s);
-                        add_stepped(sum, s);
-                    }
-                }
-            }
-            6 => {
-                let s = chip::arrived(registers, pages, memory, frame, false, false);
-                registers = s.registers;
-                pages = state::pages_of(s);
-                add_stepped(sum, s);
-            }
-            _ => {}
-        }
+        add(sum, answer_one(words, sets, queues, memory, frame, record));
     }
-    state::make_stepped(Answer::Done(0), registers, pages)
 }
 
 // All rounds; returns the sum.
 fn answer_rounds(
-    r: Registers,
-    map: [[Page; 8]; 24],
+    words: &mut [u16],
+    sets: &mut [u32],
+    queues: &mut [u8],
     memory: &mut [u8],
     frame: &[u8],
     input: &[u8],
 ) -> u64
-    requires { ⌜ InOrder r map (now memory) ⌝ }
+    requires { ⌜ InOrder (now words) (now sets) (now queues) (now memory) ⌝ }
 {
-    let mut registers = r;
-    let mut pages = map;
     let mut sum = 0;
     let mut left = ROUNDS;
     while left > 0 {
-        let s = answer_all(registers, pages, memory, frame, input, &mut sum);
-        registers = s.registers;
-        pages = state::pages_of(s);
+        answer_all(words, sets, queues, memory, frame, input, &mut sum);
         left -= 1;
     }
     sum
@@ -145,13 +123,24 @@ fn fill(frame: &mut [u8]) {
 
 // The rounds from power-up on.
 fn run(input: &[u8]) -> u64 {
-    let s = chip::power_up();
-    let r = s.registers;
-    let map = state::pages_of(s);
+    let start = chip::power_up();
+    let registers = start.registers;
+    let pages = start.pages;
+    let fifos = start.queues;
+    let mut words = registers.words;
+    let mut sets = pages.sets;
+    let mut queues = fifos.slots;
     let mut memory = [0; 6144];
     let mut frame = [0; 1518];
     fill(&mut frame);
-    answer_rounds(r, map, &mut memory, &frame, input)
+    answer_rounds(
+        &mut words,
+        &mut sets,
+        &mut queues,
+        &mut memory,
+        &frame,
+        input,
+    )
 }
 
 fn main() {

@@ -110,7 +110,7 @@ module _ (k x : ℕ) where
   pub weight-le : x / 2 ^ k % 2 * 2 ^ k ≤ x
   weight-le = omega (arith, split x (suc k), low-bits k x)
 
--- Numbers that have bit k in common share a bit, and no further bit shared is none shared.
+-- Numbers that have bit k in common share a bit.
 module _ (x y : ℕ) where
   pub share-here : (n k : ℕ) → k < n → bit k x && bit k y ≡ true → share n x y ≡ true
   unfolding share
@@ -120,7 +120,3 @@ module _ (x y : ℕ) where
       go : (k < n → bit k x && bit k y ≡ true → share n x y ≡ true) → Dec (k ≡ n) → share (suc n) x y ≡ true
       go f (yes d) = rw (← d, e) (or-true (share k x y))
       go f (no d) = let l : k < n = omega arith in rw (f l e)
-
-  pub share-on : (k : ℕ) → share k x y ≡ false → bit k x && bit k y ≡ false → share (k + 1) x y ≡ false
-  unfolding share
-  share-on k a b = rw (add-one k, a, b)

@@ -4,7 +4,7 @@
 ghost use mathlib.Core.Path.{_≡_};
 ghost use mathlib.Core.Bool.{_&&_, _||_};
 ghost use Prim.Native.Nat.{_<_};
-ghost use Rattle.rules.specs.Bits.{bit, setBit, clearBit, flag, share, lowByte, highByte, wordOf};
+ghost use Rattle.rules.specs.Bits.{bit, setBit, clearBit, flag, lowByte, highByte, wordOf};
 
 // Is bit k of a register set?
 pub fn is_set(x: u16, k: u16) -> bool
@@ -88,18 +88,4 @@ pub fn either(a: bool, b: bool) -> bool
         return true;
     }
     b
-}
-
-// Have two bytes a bit in common?
-pub fn shares(x: u8, y: u8) -> bool
-    ensures { λ r. ⌜ r ≡ share 8 x y ⌝ }
-{
-    let mut k = 0;
-    while k < 8 {
-        if both(byte_is_set(x, k), byte_is_set(y, k)) {
-            return true;
-        }
-        k += 1;
-    }
-    false
 }

@@ -1,4 +1,4 @@
--- What the entries' parameters stand for in `rules`.
-pub mod Lanes
-pub mod Entry
-pub mod Writes
+-- What the entries' parameters stand for in `rules`, and from what a step makes to what an entry promises.
+pub mod Inputs
+pub mod Rights
+pub mod Once

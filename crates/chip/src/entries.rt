@@ -1,24 +1,40 @@
 // Power-up, and the interrupt line.
 use state::Answer;
+use state::Pages;
+use state::Queues;
 use state::Registers;
-use state::Stepped;
-use store::Page;
-ghost use Rattle.chip.specs.Entry.{Started, Lines};
+use state::Returned;
+ghost use Rattle.chip.specs.Inputs.{Started, Lines};
 
-// The registers and the page map at power-up; the memory is 6,144 zero bytes.
-pub fn power_up() -> Stepped
-    ensures { λ s. ⌜ Started s ⌝ }
+// Registers, pages and queues at power-up; the memory beside them is 6,144 zero bytes.
+pub fn power_up() -> Returned
+    ensures { λ x. ⌜ Started x ⌝ }
 {
-    let r = registers::powered();
-    state::make_stepped(Answer::Done(0), r, store::cleared())
+    let mut words = [0; 32];
+    registers::reset_words(&mut words);
+    let registers = Registers { words };
+    let sets = [0; 24];
+    let pages = Pages { sets };
+    let slots = [0; 72];
+    let queues = Queues { slots };
+    let answer = Answer::Done(0);
+    Returned {
+        answer,
+        registers,
+        pages,
+        queues,
+    }
 }
 
 // Is the interrupt line up? That of a record that is not in order is down.
-pub fn line(r: Registers, map: [[Page; 8]; 24]) -> bool
-    ensures { λ b. ⌜ Lines r map b ⌝ }
+pub fn line(r: Registers, p: Pages, q: Queues) -> bool
+    ensures { λ b. ⌜ Lines r p q b ⌝ }
 {
-    if !guard::well_formed(r, map) {
+    let words = r.words;
+    let sets = p.sets;
+    let slots = q.slots;
+    if !guard::well_formed(&words, &sets, &slots) {
         return false;
     }
-    registers::line_up(r)
+    registers::line_up(&words)
 }

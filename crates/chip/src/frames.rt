@@ -1,43 +1,67 @@
-// A frame arrives: on a chip that is in order, and on any record.
+// A frame arrives: on a state that is in order, and on any record.
 use crate::order::in_order;
 use state::Answer;
+use state::Pages;
+use state::Queues;
 use state::Registers;
-use state::Stepped;
-use store::Page;
+use state::Returned;
 ghost use mathlib.Core.List.{[]};
 ghost use Rattle.rules.specs.Step as rules;
-ghost use Rattle.receive.specs.Arrivals.{frameOf};
 ghost use Rattle.state.specs.View.{view};
-ghost use Rattle.state.specs.Promise.{InOrder, Right, Answers};
+ghost use Rattle.state.specs.Entry.{InOrder, Right, Answers};
+ghost use Rattle.receive.specs.Arrivals.{frameOf};
 
 // The step below the public entry: no check is repeated here.
 pub fn arrived(
-    r: Registers,
-    map: [[Page; 8]; 24],
+    words: &mut [u16],
+    sets: &mut [u32],
+    queues: &mut [u8],
     memory: &mut [u8],
     frame: &[u8],
     bad_crc: bool,
     alignment: bool,
-) -> Stepped
-    requires { ⌜ InOrder r map (now memory) ⌝ }
-    ensures { λ s. ⌜ Right (rules.step (rules.frame (frameOf (now (frame .entry)) «bad_crc» alignment)) (view r map (now (memory .entry))) []) s (now (memory .exit)) [] ⌝ }
+) -> Answer
+    requires { ⌜ InOrder (now words) (now sets) (now queues) (now memory) ⌝ }
+    ensures { λ a. ⌜ Right (rules.step (rules.frame (frameOf (now (frame .entry)) «bad_crc» alignment)) (view (now (words .entry)) (now (sets .entry)) (now (queues .entry)) (now (memory .entry))) []) a (now (words .exit)) (now (sets .exit)) (now (queues .exit)) (now (memory .exit)) [] ⌝ }
 {
-    receive::arrived(r, map, memory, frame, bad_crc, alignment)
+    receive::arrived(words, sets, queues, memory, frame, bad_crc, alignment)
 }
 
 // A frame arrives: its bytes with FCS, and two flags.
 pub fn frame(
     r: Registers,
-    map: [[Page; 8]; 24],
+    p: Pages,
+    q: Queues,
     memory: &mut [u8],
     bytes: &[u8],
     bad_crc: bool,
     alignment: bool,
-) -> Stepped
-    ensures { λ s. ⌜ Answers (rules.frame (frameOf (now (bytes .entry)) «bad_crc» alignment)) r map (now (memory .entry)) [] s (now (memory .exit)) [] ⌝ }
+) -> Returned
+    ensures { λ x. ⌜ Answers (rules.frame (frameOf (now (bytes .entry)) «bad_crc» alignment)) r p q (now (memory .entry)) [] x (now (memory .exit)) [] ⌝ }
 {
-    if !in_order(r, map, memory) {
-        return state::make_stepped(Answer::Damaged, r, map);
+    let mut words = r.words;
+    let mut sets = p.sets;
+    let mut slots = q.slots;
+    let answer = if in_order(&words, &sets, &slots, memory) {
+        arrived(
+            &mut words,
+            &mut sets,
+            &mut slots,
+            memory,
+            bytes,
+            bad_crc,
+            alignment,
+        )
+    } else {
+        Answer::Damaged
+    };
+    let registers = Registers { words };
+    let pages = Pages { sets };
+    let queues = Queues { slots };
+    Returned {
+        answer,
+        registers,
+        pages,
+        queues,
     }
-    arrived(r, map, memory, bytes, bad_crc, alignment)
 }

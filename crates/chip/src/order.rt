@@ -1,15 +1,16 @@
-// Is a record in order?
-use state::Registers;
-use store::Page;
+// Is a state in order?
+ghost use mathlib.Core.Path.{_≡_};
+ghost use lib.ListN.{length};
 ghost use Rattle.lists.specs.Facts.{Decides};
-ghost use Rattle.state.specs.Promise.{InOrder};
+ghost use Rattle.state.specs.Entry.{InOrder};
 
-// A canonical record of a well-formed chip, beside 6,144 bytes; anything else is refused with 16.
-pub fn in_order(r: Registers, map: [[Page; 8]; 24], memory: &[u8]) -> bool
-    ensures { λ b. ⌜ Decides b (InOrder r map (now (memory .entry))) ⌝ }
+// A state of a well-formed chip, beside 6,144 bytes; anything else is refused with 16.
+pub fn in_order(words: &[u16], sets: &[u32], queues: &[u8], memory: &[u8]) -> bool
+    requires { ⌜ (length (now words) ≡ 32) × (length (now sets) ≡ 24) × (length (now queues) ≡ 72) ⌝ }
+    ensures { λ b. ⌜ Decides b (InOrder (now (words .entry)) (now (sets .entry)) (now (queues .entry)) (now (memory .entry))) ⌝ }
 {
     if memory.len() != 6144 {
         return false;
     }
-    guard::well_formed(r, map)
+    guard::well_formed(words, sets, queues)
 }

@@ -1,43 +1,77 @@
-// A send finishes: on a chip that is in order, and on any record.
+// A send finishes: on a state that is in order, and on any record.
 use crate::order::in_order;
 use state::Answer;
+use state::Pages;
+use state::Queues;
 use state::Registers;
-use state::Stepped;
-use store::Page;
+use state::Returned;
 ghost use Rattle.rules.specs.Step as rules;
 ghost use Rattle.state.specs.View.{view};
-ghost use Rattle.state.specs.Promise.{InOrder, Right, Answers};
+ghost use Rattle.state.specs.Entry.{InOrder, Right, Answers};
 
 // The step below the public entry: no check is repeated here.
 pub fn finished(
-    r: Registers,
-    map: [[Page; 8]; 24],
+    words: &mut [u16],
+    sets: &mut [u32],
+    queues: &mut [u8],
     memory: &mut [u8],
     out: &mut [u8],
     outcome: u8,
     collisions: u8,
     deferral: u8,
-) -> Stepped
-    requires { ⌜ InOrder r map (now memory) ⌝ }
-    ensures { λ s. ⌜ Right (rules.step (rules.sent (record { outcome = outcome; collisions = collisions; deferral = deferral })) (view r map (now (memory .entry))) (now (out .entry))) s (now (memory .exit)) (now (out .exit)) ⌝ }
+) -> Answer
+    requires { ⌜ InOrder (now words) (now sets) (now queues) (now memory) ⌝ }
+    ensures { λ a. ⌜ Right (rules.step (rules.sent (record { outcome = outcome; collisions = collisions; deferral = deferral })) (view (now (words .entry)) (now (sets .entry)) (now (queues .entry)) (now (memory .entry))) (now (out .entry))) a (now (words .exit)) (now (sets .exit)) (now (queues .exit)) (now (memory .exit)) (now (out .exit)) ⌝ }
 {
-    sending::finished(r, map, memory, out, outcome, collisions, deferral)
+    sending::finished(
+        words,
+        sets,
+        queues,
+        memory,
+        out,
+        outcome,
+        collisions,
+        deferral,
+    )
 }
 
 // The packet at the head of TX has been sent; what is put out goes to the front of the output buffer.
 pub fn send(
     r: Registers,
-    map: [[Page; 8]; 24],
+    p: Pages,
+    q: Queues,
     memory: &mut [u8],
     out: &mut [u8],
     outcome: u8,
     collisions: u8,
     deferral: u8,
-) -> Stepped
-    ensures { λ s. ⌜ Answers (rules.sent (record { outcome = outcome; collisions = collisions; deferral = deferral })) r map (now (memory .entry)) (now (out .entry)) s (now (memory .exit)) (now (out .exit)) ⌝ }
+) -> Returned
+    ensures { λ x. ⌜ Answers (rules.sent (record { outcome = outcome; collisions = collisions; deferral = deferral })) r p q (now (memory .entry)) (now (out .entry)) x (now (memory .exit)) (now (out .exit)) ⌝ }
 {
-    if !in_order(r, map, memory) {
-        return state::make_stepped(Answer::Damaged, r, map);
+    let mut words = r.words;
+    let mut sets = p.sets;
+    let mut slots = q.slots;
+    let answer = if in_order(&words, &sets, &slots, memory) {
+        finished(
+            &mut words,
+            &mut sets,
+            &mut slots,
+            memory,
+            out,
+            outcome,
+            collisions,
+            deferral,
+        )
+    } else {
+        Answer::Damaged
+    };
+    let registers = Registers { words };
+    let pages = Pages { sets };
+    let queues = Queues { slots };
+    Returned {
+        answer,
+        registers,
+        pages,
+        queues,
     }
-    finished(r, map, memory, out, outcome, collisions, deferral)
 }

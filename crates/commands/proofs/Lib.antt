@@ -1,2 +1,3 @@
+-- Proofs that belong to no one function.
 pub mod Steps
 pub mod Returns

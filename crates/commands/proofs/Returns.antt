@@ -1,43 +1,67 @@
--- How what a command returns is shown to be what document 01 says of it.
-use mathlib.Core.Path.{_≡_, refl, subst, _∙_}
-use mathlib.Core.List.{List, []}
-use Prim.Native.Nat.{ℕ}
-use Rattle.rules.specs.Chip.{Chip}
+-- How answer and state after a command are shown to be what document 01 says of it.
+use mathlib.Core.Path.{_≡_, refl, ap, ap₂, sym, _∙_}
+use mathlib.Core.Bool.{Bool, true, false, _||_}
+use mathlib.Core.List.{List, [], map}
+use Prim.Native.Nat.{ℕ, _%_}
+use lib.ListN.{length, getD}
+use Rattle.rules.specs.Lists.{member, some?}
+use Rattle.rules.specs.Chip.{Registers, Pool, Chip, size, emptyPool}
 use Rattle.rules.specs.Answers.{Effect, did}
-use Rattle.rules.specs.Mmu.{Command, perform, ifIdle}
-use Rattle.store.specs.declared.Page.{Page}
-use Rattle.store.specs.Views.{SoundMap}
-use Rattle.state.specs.declared.Registers.{Registers}
-use Rattle.state.specs.declared.Stepped.{Stepped}
+use Rattle.rules.specs.Fields.{setResult, setPages, inRegisters, inPool}
+use Rattle.rules.specs.Mmu.{Command, reset, perform, ifIdle}
+use Rattle.sets.specs.Views.{pagesOf}
+use Rattle.sets.specs.Lists.{lists-length}
 use Rattle.state.specs.declared.Answer.{Answer}
 use Rattle.state.specs.declared.Answer.the-variants.{Done, NotAllocated, StillQueued}
-use Rattle.state.specs.View.{view, replyOf, SoundQueues, Ready}
-use Rattle.commands.specs.declared.Idle.{Idle}
-use Rattle.commands.specs.declared.Idle.the-variants as idle
-use Rattle.commands.specs.Orders.{IsIdle, Performs}
-use Rattle.commands.proofs.Steps.{idle-5, idle-6}
+use Rattle.state.specs.Meaning.{replyOf}
+use Rattle.state.specs.View.{word, queueIn, view}
+use Rattle.state.specs.Promise.{Sets, sets-chip, sets-sound, Sound, Makes}
+use Rattle.pool.specs.Queues.{Emptied}
+use Rattle.commands.specs.Orders.{Performs}
+use Rattle.commands.proofs.Steps.{idle-5, idle-6, idle-done}
 
--- what is known of the packet, by the answer at hand
-pub told : (r : Registers) (m : List (List Page)) {i j : Idle} → i ≡ j → IsIdle i (view r m []) → IsIdle j (view r m [])
-told r m e h = subst (λ (x : Idle). IsIdle x (view r m [])) e h
+module _ (k : Command) (w s q mem : List ℕ) where
+  -- done: the command is `f` on the chip, and the state after stands for `f` of what it stood for
+  pub performs : (f : Chip → Chip) {w′ s′ q′ : List ℕ} → perform k (view w s q mem) ≡ did (f (view w s q mem))
+      → view w′ s′ q′ mem ≡ f (view w s q mem) → Sound w′ s′ q′ → Makes (perform k (view w s q mem)) (Done 0) w′ s′ q′ mem
+  performs f p e o = rw p (record { chip = e; reply = refl; sound = o })
 
-module _ (k : Command) (r : Registers) (m : List (List Page)) where
-  -- done: the command is `f` on the chip, and the new registers and map are `f` of the old
-  pub performs : (f : Chip → Chip) (next : Registers) (n : List (List Page)) (s : Stepped)
-      → ((mem : List ℕ) → perform k (view r m mem) ≡ did (f (view r m mem)))
-      → ((mem : List ℕ) → view next n mem ≡ f (view r m mem))
-      → SoundQueues (next .rx) (next .tx) (next .done) → SoundMap n → s ≡ record { answer = Done 0; registers = next; pages = n } → Performs k r m s
-  performs f next n s p e q h x mem = rw (x, p mem) (record { chip = e mem; reply = refl; queues = q; map = h })
+  -- done, with other page sets, whose lists are `ls`, beside words and queues that may have changed before
+  pub performs-paged : (f : Chip → Chip) (ls : List (List ℕ)) {w′ s′ q′ : List ℕ} → perform k (view w s q mem) ≡ did (f (view w s q mem))
+      → map pagesOf s′ ≡ ls → length ls ≡ 24 → Sound w′ s q′ → inPool (setPages ls) (view w′ s q′ mem) ≡ f (view w s q mem) → Makes (perform k (view w s q mem)) (Done 0) w′ s′ q′ mem
+  performs-paged f ls {w′} {s′} {q′} p e long o same =
+      performs f p (ap (λ (x : List (List ℕ)). inPool (setPages x) (view w′ s q′ mem)) e ∙ same)
+      (record { kept = o .kept; queues = o .queues; sets = sym (lists-length s′) ∙ ap length e ∙ long })
 
-  -- refused: nothing changes
-  pub refuses : (a : Answer) (s : Stepped) → Ready r m → ((mem : List ℕ) → perform k (view r m mem) ≡ record { reply = replyOf a; chip = view r m mem })
-      → s ≡ record { answer = a; registers = r; pages = m } → Performs k r m s
-  refuses a s w p x mem = rw (x, p mem) (record { chip = refl; reply = refl; queues = w .queues; map = w .map })
+  -- nothing changes: a refusal, and 00h
+  pub unchanged : (a : Answer) → Sound w s q → perform k (view w s q mem) ≡ record { reply = replyOf a; chip = view w s q mem } → Makes (perform k (view w s q mem)) a w s q mem
+  unchanged a o p = rw p (record { chip = refl; reply = refl; sound = o })
 
-  -- refusals 5 and 6, of a command on the packet number register
-  module _ (f : Chip → Effect) (p : (c : Chip) → perform k c ≡ ifIdle c (f c)) where
-    pub refuses-5 : (s : Stepped) → Ready r m → {i : Idle} → i ≡ idle.NotAllocated → IsIdle i (view r m []) → s ≡ record { answer = NotAllocated; registers = r; pages = m } → Performs k r m s
-    refuses-5 s w e h x = refuses NotAllocated s w (λ mem. p (view r m mem) ∙ idle-5 (view r m mem) (f (view r m mem)) (told r m e h)) x
+-- A command on the packet number register, which names packet n.
+module _ (k : Command) (f : Chip → Effect) (p : (c : Chip) → perform k c ≡ ifIdle c (f c)) (w s q : List ℕ) (n : ℕ) (named : n ≡ word w 17 % 256) where
+  has : {b : Bool} → some? (getD (map pagesOf s) n []) ≡ b → some? (getD (map pagesOf s) (word w 17 % 256) []) ≡ b
+  has e = sym (ap (λ (j : ℕ). some? (getD (map pagesOf s) j [])) named) ∙ e
 
-    pub refuses-6 : (s : Stepped) → Ready r m → {i : Idle} → i ≡ idle.StillQueued → IsIdle i (view r m []) → s ≡ record { answer = StillQueued; registers = r; pages = m } → Performs k r m s
-    refuses-6 s w e h x = let i = told r m e h in refuses StillQueued s w (λ mem. p (view r m mem) ∙ idle-6 (view r m mem) (f (view r m mem)) (i .0) (i .1)) x
+  waits : {b t : Bool} → b ≡ member n (queueIn 0 (word w 6) q) || member n (queueIn 1 (word w 8) q) → b ≡ t
+      → member (word w 17 % 256) (queueIn 0 (word w 6) q) || member (word w 17 % 256) (queueIn 1 (word w 8) q) ≡ t
+  waits e u = sym (e ∙ ap (λ (j : ℕ). member j (queueIn 0 (word w 6) q) || member j (queueIn 1 (word w 8) q)) named) ∙ u
+
+  pub refuses-5 : Sound w s q → some? (getD (map pagesOf s) n []) ≡ false → Performs k w s q NotAllocated w s q
+  refuses-5 o a mem = let c = view w s q mem in unchanged k w s q mem NotAllocated o (p c ∙ idle-5 c (f c) (has a))
+
+  pub refuses-6 : Sound w s q → some? (getD (map pagesOf s) n []) ≡ true → {b : Bool} → b ≡ member n (queueIn 0 (word w 6) q) || member n (queueIn 1 (word w 8) q) → b ≡ true
+      → Performs k w s q StillQueued w s q
+  refuses-6 o a b u mem = let c = view w s q mem in unchanged k w s q mem StillQueued o (p c ∙ idle-6 c (f c) (has a) (waits b u))
+
+  pub goes-ahead : some? (getD (map pagesOf s) n []) ≡ true → {b : Bool} → b ≡ member n (queueIn 0 (word w 6) q) || member n (queueIn 1 (word w 8) q) → b ≡ false
+      → (mem : List ℕ) → perform k (view w s q mem) ≡ f (view w s q mem)
+  goes-ahead a b u mem = let c = view w s q mem in p c ∙ idle-done c (f c) (has a) (waits b u)
+
+-- 40h: the pool is empty, and then the result is stored.
+pub resets : (w s q mem : List ℕ) {w₁ w₂ s′ q′ : List ℕ} → length s ≡ 24 → Emptied w w₁ s′ q′ → Sets (setResult 0x80) w₁ w₂ → Makes (perform reset (view w s q mem)) (Done 0) w₂ s′ q′ mem
+unfolding perform
+resets w s q mem {s′ = s′} {q′ = q′} long e g =
+    performs reset w s q mem (λ x. inRegisters (setResult 0x80) (inPool (λ p. emptyPool (size x)) x)) refl
+    (sets-chip g s′ q′ mem
+    ∙ ap₂ (λ (r : Registers) (p : Pool). inRegisters (setResult 0x80) (record { regs = r; pool = p; memory = mem })) (e .regs) (e .pool ∙ ap emptyPool (sym (lists-length s ∙ long))))
+    (sets-sound g (e .sound))

@@ -1,6 +1,6 @@
 -- What a command does, case by case, with its tests answered; and what well-formedness gives a command.
-use mathlib.Core.Path.{_≡_, refl, ap}
-use mathlib.Core.Bool.{true, false}
+use mathlib.Core.Path.{_≡_, refl, ap, sym, _∙_}
+use mathlib.Core.Bool.{Bool, true, false}
 use mathlib.Core.Logic.{⊎-elim}
 use mathlib.Core.List.{List, [], _∷_, _++_}
 use Prim.Native.Nat.{ℕ, _+_, _≤_, _<_, _/_, _%_}
@@ -13,7 +13,7 @@ use Rattle.rules.specs.Fields.{setResult, setRx, setTx, inRegisters, inPool}
 use Rattle.rules.specs.Answers.{Effect, did, refuse}
 use Rattle.rules.specs.WellFormed.{WellFormed}
 use Rattle.rules.specs.Mmu.{allocate, removeRx, removeAndRelease, release, enqueue, unknown, decode, perform, grant, giveBack, queued, ifIdle, ifHead}
-use Rattle.lists.specs.Facts.{no-head, head-and-rest, member-at, member-cases}
+use Rattle.lists.specs.Facts.{or-right, no-head, head-and-rest, member-at, member-cases}
 use Rattle.wellformed.specs.Count.{distinct-few}
 use Rattle.wellformed.specs.Pool.{has-small}
 
@@ -86,8 +86,8 @@ module _ (c : Chip) (w : WellFormed c) where
   pub packet-small : (k : ℕ) → allocated k c ≡ true → k < 24
   packet-small k a = omega (arith, has-small (c .pool .pages) k a, w .count)
 
-  -- a packet that is allocated and not in TX finds a place there
-  pub tx-room : (k : ℕ) → allocated k c ≡ true → member k (c .pool .tx) ≡ false → length (c .pool .tx) < 24
-  tx-room k a m =
-      distinct-few 24 (k ∷ c .pool .tx) (m, w .queues .txDistinct)
+  -- a packet that is allocated and in no queue finds a place in TX
+  pub tx-room : (k : ℕ) → allocated k c ≡ true → {b : Bool} → b ≡ queued k c → b ≡ false → length (c .pool .tx) < 24
+  tx-room k a e u =
+      distinct-few 24 (k ∷ c .pool .tx) (or-right (member k (c .pool .rx)) (member k (c .pool .tx)) (sym e ∙ u), w .queues .txDistinct)
       (λ p x. ⊎-elim (λ e. omega (arith, e, packet-small k a)) (λ y. packet-small p (w .queues .txAllocated p y)) (member-cases p k (c .pool .tx) x))

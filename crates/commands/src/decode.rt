@@ -15,7 +15,7 @@ pub fn decoded(value: u8) -> Order
         0xa0 => Order::Release,
         0xc0 => Order::Enqueue,
         0xe0 => Order::ResetTx,
-        0x20..=0x27 => Order::Allocate((value % 8 + 1) as usize),
+        0x20..=0x27 => Order::Allocate((value % 8 + 1) as u32),
         _ => Order::Unknown,
     }
 }

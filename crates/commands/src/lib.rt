@@ -1,4 +1,4 @@
-// A write to the MMU command register, on a record that is canonical and well formed.
+// A write to the MMU command register, on a state that stands for a well-formed chip.
 mod decode; // decode.rt: the command that a value asks for
 mod register; // register.rt: the commands on the packet number register
 mod rx; // rx.rt: the commands on the RX head
@@ -8,23 +8,26 @@ use register::do_enqueue;
 use register::do_release;
 use rx::do_remove;
 use rx::do_remove_and_release;
+use sets::Packet;
 use state::Answer;
-use state::Registers;
-use state::Stepped;
-use state::make_stepped;
-use store::Packet;
-use store::Page;
+use state::NO_PACKET;
+use state::PACKET;
+ghost use mathlib.Core.Path.{_≡_};
+ghost use mathlib.Core.List.{List, map};
 ghost use Prim.Native.Nat.{ℕ, _≤_};
-ghost use mathlib.Core.List.{List};
+ghost use lib.ListN.{length};
+ghost use Rattle.rules.specs.Fields.{setResult};
 ghost use Rattle.rules.specs.Mmu as rules;
-ghost use Rattle.rules.specs.Mmu.{command};
-ghost use Rattle.state.specs.View.{view, Ready, Makes};
+ghost use Rattle.rules.specs.WellFormed.{GoodPages};
+ghost use Rattle.sets.specs.Views.{pagesOf};
+ghost use Rattle.state.specs.View.{view, counts, Kept};
+ghost use Rattle.state.specs.Promise.{Sets, QueuesIn, Sound, Ready, Makes};
 ghost use Rattle.commands.specs.Orders.{Performs};
 
 // The commands of the MMU command register.
 pub enum Order {
     Nothing,
-    Allocate(usize),
+    Allocate(u32),
     Reset,
     RemoveRx,
     RemoveAndRelease,
@@ -34,81 +37,61 @@ pub enum Order {
     Unknown,
 }
 
-// Whether a command on the packet number register can go ahead.
-pub enum Idle {
-    Yes,
-    NotAllocated,
-    StillQueued,
+// The allocation result is k.
+fn give_result(words: &mut [u16], k: u8)
+    requires { ⌜ Kept (now words) ⌝ }
+    ensures { λ _. ⌜ Sets (setResult k) (now (words .entry)) (now (words .exit)) ⌝ }
+{
+    words[PACKET] = bits::word(bits::low_byte(words[PACKET]), k);
 }
 
-fn do_nothing(r: Registers, map: [[Page; 8]; 24]) -> Stepped
-    requires { ⌜ Ready r map ⌝ }
-    ensures { λ s. ⌜ Performs rules.nothing r map s ⌝ }
+fn do_allocate(words: &mut [u16], sets: &mut [u32], need: u32) -> Answer
+    requires { ⌜ (1 ≤ need) × Kept (now words) × (length (now sets) ≡ 24) × GoodPages 24 (map pagesOf (now sets)) ⌝ }
+    ensures { λ a. ⌜ ((q : List ℕ) → QueuesIn (counts (now (words .entry))) q → Performs (rules.allocate need) (now (words .entry)) (now (sets .entry)) q a (now (words .exit)) (now (sets .exit)) q) ⌝ }
 {
-    make_stepped(Answer::Done(0), r, map)
-}
-
-fn do_allocate(r: Registers, map: [[Page; 8]; 24], need: usize) -> Stepped
-    requires { ⌜ (1 ≤ need) × (need ≤ 8) × Ready r map ⌝ }
-    ensures { λ s. ⌜ Performs (rules.allocate need) r map s ⌝ }
-{
-    let mut next = r;
-    if need <= store::free_count(map) {
-        let k = store::lowest_unallocated(map) as u8;
-        next.result = k;
-        make_stepped(Answer::Done(0), next, store::granted(map, Packet(k), need))
-    } else {
-        next.result = 0x80;
-        make_stepped(Answer::Done(0), next, map)
+    if need <= sets::free_count(sets) {
+        let k = sets::lowest_unallocated(sets) as u8;
+        sets::granted(sets, Packet(k), need);
+        give_result(words, k);
+        return Answer::Done(0);
     }
+    give_result(words, NO_PACKET);
+    Answer::Done(0)
 }
 
-fn do_reset(r: Registers, map: [[Page; 8]; 24]) -> Stepped
-    requires { ⌜ Ready r map ⌝ }
-    ensures { λ s. ⌜ Performs rules.reset r map s ⌝ }
+fn do_reset(words: &mut [u16], sets: &mut [u32], queues: &mut [u8]) -> Answer
+    requires { ⌜ Sound (now words) (now sets) (now queues) ⌝ }
+    ensures { λ a. ⌜ Performs rules.reset (now (words .entry)) (now (sets .entry)) (now (queues .entry)) a (now (words .exit)) (now (sets .exit)) (now (queues .exit)) ⌝ }
 {
-    let mut next = r;
-    let none = store::empty_queue();
-    next.rx = none;
-    next.tx = none;
-    next.done = none;
-    next.result = 0x80;
-    make_stepped(Answer::Done(0), next, store::cleared())
+    pool::reset(words, sets, queues);
+    give_result(words, NO_PACKET);
+    Answer::Done(0)
 }
 
-fn do_reset_tx(r: Registers, map: [[Page; 8]; 24]) -> Stepped
-    requires { ⌜ Ready r map ⌝ }
-    ensures { λ s. ⌜ Performs rules.resetTx r map s ⌝ }
+fn do_reset_tx(words: &mut [u16], queues: &mut [u8]) -> Answer
+    requires { ⌜ Kept (now words) × QueuesIn (counts (now words)) (now queues) ⌝ }
+    ensures { λ a. ⌜ ((s : List ℕ) → length s ≡ 24 → Performs rules.resetTx (now (words .entry)) s (now (queues .entry)) a (now (words .exit)) s (now (queues .exit))) ⌝ }
 {
-    let mut next = r;
-    let none = store::empty_queue();
-    next.tx = none;
-    next.done = none;
-    make_stepped(Answer::Done(0), next, map)
-}
-
-fn do_unknown(r: Registers, map: [[Page; 8]; 24]) -> Stepped
-    requires { ⌜ Ready r map ⌝ }
-    ensures { λ s. ⌜ Performs rules.unknown r map s ⌝ }
-{
-    make_stepped(Answer::Reserved, r, map)
+    pool::empty_tx(words, queues);
+    pool::empty_completion(words, queues);
+    Answer::Done(0)
 }
 
 // A write of the value to the MMU command register.
-pub fn commanded(r: Registers, map: [[Page; 8]; 24], value: u8) -> Stepped
-    requires { ⌜ Ready r map ⌝ }
-    ensures { λ s. ⌜ ((mem : List ℕ) → Makes (command value (view r map mem)) mem s) ⌝ }
+pub fn commanded(words: &mut [u16], sets: &mut [u32], queues: &mut [u8], value: u8) -> Answer
+    requires { ⌜ Ready (now words) (now sets) (now queues) ⌝ }
+    ensures { λ a. ⌜ ((mem : List ℕ) → Makes (rules.command value (view (now (words .entry)) (now (sets .entry)) (now (queues .entry)) mem)) a (now (words .exit)) (now (sets .exit)) (now (queues .exit)) mem) ⌝ }
 {
     let order = decoded(value);
     match order {
-        Order::Nothing => do_nothing(r, map),
-        Order::Allocate(need) => do_allocate(r, map, need),
-        Order::Reset => do_reset(r, map),
-        Order::RemoveRx => do_remove(r, map),
-        Order::RemoveAndRelease => do_remove_and_release(r, map),
-        Order::Release => do_release(r, map),
-        Order::Enqueue => do_enqueue(r, map),
-        Order::ResetTx => do_reset_tx(r, map),
-        Order::Unknown => do_unknown(r, map),
+        Order::Nothing => Answer::Done(0),
+        Order::Allocate(need) => do_allocate(words, sets, need),
+        Order::Reset => do_reset(words, sets, queues),
+        Order::RemoveRx => do_remove(words, queues),
+        Order::RemoveAndRelease => do_remove_and_release(words, sets, queues),
+        Order::Release => do_release(words, sets, queues),
+        Order::Enqueue => do_enqueue(words, sets, queues),
+        Order::ResetTx => do_reset_tx(words, queues),
+        Order::Unknown => Answer::Reserved,
     }
 }

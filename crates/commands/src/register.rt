@@ -1,75 +1,59 @@
 // The commands on the packet number register: refusal 5 where its packet is not allocated, 6 where it is in RX or TX.
-use crate::Idle;
+use sets::Packet;
 use state::Answer;
-use state::Registers;
-use state::Stepped;
-use state::make_stepped;
-use store::Packet;
-use store::Page;
-use store::Queue;
+use state::PACKET;
 ghost use mathlib.Core.Path.{_≡_};
-ghost use mathlib.Core.Bool.{_||_};
-ghost use mathlib.Core.List.{[]};
-ghost use Rattle.rules.specs.Lists.{member};
+ghost use mathlib.Core.List.{[], map};
+ghost use Prim.Native.Nat.{_%_};
+ghost use lib.ListN.{getD};
+ghost use Rattle.rules.specs.Lists.{some?};
 ghost use Rattle.rules.specs.Mmu as rules;
-ghost use Rattle.store.specs.Views.{entries, SoundQueue};
-ghost use Rattle.state.specs.View.{view, Ready};
-ghost use Rattle.commands.specs.Orders.{IsIdle, Performs};
+ghost use Rattle.sets.specs.Views.{pagesOf};
+ghost use Rattle.state.specs.View.{word, Kept};
+ghost use Rattle.state.specs.Promise.{Ready};
+ghost use Rattle.commands.specs.Orders.{Performs};
 
-// Is the packet in RX or TX?
-fn is_queued(rx: Queue, tx: Queue, packet: Packet) -> bool
-    requires { ⌜ SoundQueue rx × SoundQueue tx ⌝ }
-    ensures { λ b. ⌜ b ≡ member (packet .0) (entries rx) || member (packet .0) (entries tx) ⌝ }
+// The packet that the register names.
+fn named(words: &[u16]) -> Packet
+    requires { ⌜ Kept (now words) ⌝ }
+    ensures { λ r. ⌜ r .0 ≡ word (now (words .entry)) 17 % 256 ⌝ }
 {
-    if store::contains(rx, packet) {
-        return true;
-    }
-    store::contains(tx, packet)
+    Packet(bits::low_byte(words[PACKET]))
 }
 
-// Is the packet of the packet number register allocated and in no queue?
-fn register_idle(r: Registers, map: [[Page; 8]; 24]) -> Idle
-    requires { ⌜ Ready r map ⌝ }
-    ensures { λ i. ⌜ IsIdle i (view r map []) ⌝ }
+// Has the packet pages?
+fn is_allocated(sets: &[u32], packet: Packet) -> bool
+    ensures { λ b. ⌜ b ≡ some? (getD (map pagesOf (now (sets .entry))) (packet .0) []) ⌝ }
 {
-    let packet = Packet(r.packet);
-    if !store::allocated(map, packet) {
-        return Idle::NotAllocated;
-    }
-    let rx = r.rx;
-    let tx = r.tx;
-    if is_queued(rx, tx, packet) {
-        return Idle::StillQueued;
-    }
-    Idle::Yes
+    sets::has_pages(sets::set_of(sets, packet))
 }
 
-pub fn do_release(r: Registers, map: [[Page; 8]; 24]) -> Stepped
-    requires { ⌜ Ready r map ⌝ }
-    ensures { λ s. ⌜ Performs rules.release r map s ⌝ }
+pub fn do_release(words: &[u16], sets: &mut [u32], queues: &[u8]) -> Answer
+    requires { ⌜ Ready (now words) (now sets) (now queues) ⌝ }
+    ensures { λ a. ⌜ Performs rules.release (now (words .entry)) (now (sets .entry)) (now (queues .entry)) a (now (words .entry)) (now (sets .exit)) (now (queues .entry)) ⌝ }
 {
-    let idle = register_idle(r, map);
-    match idle {
-        Idle::NotAllocated => make_stepped(Answer::NotAllocated, r, map),
-        Idle::StillQueued => make_stepped(Answer::StillQueued, r, map),
-        Idle::Yes => make_stepped(Answer::Done(0), r, store::released(map, Packet(r.packet))),
+    let packet = named(words);
+    if !is_allocated(sets, packet) {
+        return Answer::NotAllocated;
     }
+    if pool::is_queued(words, queues, packet) {
+        return Answer::StillQueued;
+    }
+    sets::released(sets, packet);
+    Answer::Done(0)
 }
 
-pub fn do_enqueue(r: Registers, map: [[Page; 8]; 24]) -> Stepped
-    requires { ⌜ Ready r map ⌝ }
-    ensures { λ s. ⌜ Performs rules.enqueue r map s ⌝ }
+pub fn do_enqueue(words: &mut [u16], sets: &[u32], queues: &mut [u8]) -> Answer
+    requires { ⌜ Ready (now words) (now sets) (now queues) ⌝ }
+    ensures { λ a. ⌜ Performs rules.enqueue (now (words .entry)) (now (sets .entry)) (now (queues .entry)) a (now (words .exit)) (now (sets .entry)) (now (queues .exit)) ⌝ }
 {
-    let idle = register_idle(r, map);
-    match idle {
-        Idle::NotAllocated => make_stepped(Answer::NotAllocated, r, map),
-        Idle::StillQueued => make_stepped(Answer::StillQueued, r, map),
-        Idle::Yes => {
-            let mut next = r;
-            let tx = r.tx;
-            let more = store::push(tx, Packet(r.packet));
-            next.tx = more;
-            make_stepped(Answer::Done(0), next, map)
-        }
+    let packet = named(words);
+    if !is_allocated(sets, packet) {
+        return Answer::NotAllocated;
     }
+    if pool::is_queued(words, queues, packet) {
+        return Answer::StillQueued;
+    }
+    pool::join_tx(words, queues, packet);
+    Answer::Done(0)
 }

@@ -1,38 +1,35 @@
 // The commands on the RX head: refusal 7 where RX is empty.
 use state::Answer;
-use state::Registers;
-use state::Stepped;
-use state::make_stepped;
-use store::Page;
+use state::RX_COUNT;
+ghost use mathlib.Core.Path.{_≡_};
+ghost use mathlib.Core.List.{List};
+ghost use Prim.Native.Nat.{ℕ};
+ghost use lib.ListN.{length};
 ghost use Rattle.rules.specs.Mmu as rules;
-ghost use Rattle.state.specs.View.{Ready};
+ghost use Rattle.state.specs.View.{counts, Kept};
+ghost use Rattle.state.specs.Promise.{QueuesIn, Ready};
 ghost use Rattle.commands.specs.Orders.{Performs};
 
-pub fn do_remove(r: Registers, map: [[Page; 8]; 24]) -> Stepped
-    requires { ⌜ Ready r map ⌝ }
-    ensures { λ s. ⌜ Performs rules.removeRx r map s ⌝ }
+pub fn do_remove(words: &mut [u16], queues: &mut [u8]) -> Answer
+    requires { ⌜ Kept (now words) × QueuesIn (counts (now words)) (now queues) ⌝ }
+    ensures { λ a. ⌜ ((s : List ℕ) → length s ≡ 24 → Performs rules.removeRx (now (words .entry)) s (now (queues .entry)) a (now (words .exit)) s (now (queues .exit))) ⌝ }
 {
-    let rx = r.rx;
-    if rx.count == 0 {
-        return make_stepped(Answer::RxEmpty, r, map);
+    if words[RX_COUNT] == 0 {
+        return Answer::RxEmpty;
     }
-    let mut next = r;
-    let rest = store::pop(rx);
-    next.rx = rest;
-    make_stepped(Answer::Done(0), next, map)
+    pool::leave_rx(words, queues);
+    Answer::Done(0)
 }
 
-pub fn do_remove_and_release(r: Registers, map: [[Page; 8]; 24]) -> Stepped
-    requires { ⌜ Ready r map ⌝ }
-    ensures { λ s. ⌜ Performs rules.removeAndRelease r map s ⌝ }
+pub fn do_remove_and_release(words: &mut [u16], sets: &mut [u32], queues: &mut [u8]) -> Answer
+    requires { ⌜ Ready (now words) (now sets) (now queues) ⌝ }
+    ensures { λ a. ⌜ Performs rules.removeAndRelease (now (words .entry)) (now (sets .entry)) (now (queues .entry)) a (now (words .exit)) (now (sets .exit)) (now (queues .exit)) ⌝ }
 {
-    let rx = r.rx;
-    if rx.count == 0 {
-        return make_stepped(Answer::RxEmpty, r, map);
+    if words[RX_COUNT] == 0 {
+        return Answer::RxEmpty;
     }
-    let mut next = r;
-    let head = store::head(rx);
-    let rest = store::pop(rx);
-    next.rx = rest;
-    make_stepped(Answer::Done(0), next, store::released(map, head))
+    let head = pool::rx_head(queues);
+    pool::leave_rx(words, queues);
+    sets::released(sets, head);
+    Answer::Done(0)
 }

@@ -1,78 +1,58 @@
--- How a gate stands for the tests of the rules: refusals 7 or 5, 8, 9 and 10 in this order, and the access behind them.
+-- How a gate stands for the tests of the rules: refusals 7 or 5, 8, 9 and 10 in this order; and that an access goes by the pages of the packet that is meant.
 use mathlib.Core.Path.{_≡_, refl, ap, sym, subst, _∙_}
-use mathlib.Core.Bool.{Bool, true, false, cond, not}
+use mathlib.Core.Bool.{Bool, true, false, cond, not, _||_, true≢false}
 use mathlib.Core.List.{List, [], _∷_}
-use Prim.Native.Nat.{ℕ, _+_, _*_, _%_, _≤_}
-use native.Mathlib.Decide.{decLe}
+use Prim.Native.Nat.{ℕ, zero, suc, _+_, _*_, _/_, _≤_, _<_}
 use native.Mathlib.Omega.{arith}
-use borrow.Author.Tests.{leb-true, le-leb, lt-leb, le-ltb, lt-ltb}
-use lib.Dec.{leb, ltb}
-use lib.ListN.{length, getD, List·getD-eq-default}
-use Rattle.rules.specs.Lists.{some?}
+use borrow.Author.Tests.{lt-ltb}
+use lib.ListN.{length, drop, List·getD-eq-default}
+use Rattle.rules.specs.Lists.{member, some?}
 use Rattle.rules.specs.Chip.{Chip, pagesAt}
-use Rattle.rules.specs.Fields.{setPointer, inRegisters}
-use Rattle.rules.specs.Answers.{Reply, Effect, refusal, refuse}
+use Rattle.rules.specs.Answers.{Reply, Effect, refuse}
+use Rattle.rules.specs.Answers as rules
 use Rattle.rules.specs.WellFormed.{WellFormed}
 use Rattle.rules.specs.Mmu.{ifHead}
 use Rattle.rules.specs.Data.{rcv, against, oddFixed, past, address, ifPacket, ifOpen}
-use Rattle.lists.specs.Facts.{member-first}
-use Rattle.lists.specs.Bytes.{Below}
-use Rattle.store.specs.declared.Page.{Page}
-use Rattle.store.specs.Views.{used, pagesOf, entries}
-use Rattle.packet.specs.Room.{Room}
-use Rattle.state.specs.declared.Registers.{Registers}
+use Rattle.lists.specs.Facts.{or-left, or-right, member-first, member-later}
+use Rattle.lists.specs.Bytes.{Below, place-room}
 use Rattle.state.specs.declared.Answer.{Answer}
-use Rattle.state.specs.declared.Answer.the-variants.{AgainstRead, OddPointer, PastPages}
-use Rattle.state.specs.declared.Touched.{Touched}
-use Rattle.state.specs.View.{view, replyOf, Ready, Touches}
-use Rattle.data.specs.declared.Gate.{Gate}
+use Rattle.state.specs.Meaning.{replyOf}
+use Rattle.state.specs.View.{word, view}
+use Rattle.state.specs.Promise.{Ready, Makes}
 use Rattle.data.specs.declared.Gate.the-variants.{Open, Refused}
-use Rattle.data.specs.Access.{headOr24, meantBy, ifAny, refusedIf, firstOf, through, Guards}
+use Rattle.data.specs.Access.{headOr24, meantBy, pagesMeant, refusalOf, ifAny, unlessPast, Stands, Guards, Room}
 
--- one number is below another where the other is not at most it
-ltb-not : (a b : ℕ) → ltb a b ≡ not (leb b a)
-ltb-not a b = go (decLe b a)
-  where
-    go : Dec (b ≤ a) → ltb a b ≡ not (leb b a)
-    go (yes h) = rw (le-ltb a b h, le-leb b a h)
-    go (no h) = rw (lt-ltb a b (omega arith), lt-leb b a (omega arith))
+-- The tests in their order, where the last holds if no other does.
+in-order : (n a o q : Bool) (k : ℕ) (c : Chip) (s : Effect) → (a || o ≡ false → q ≡ true)
+    → cond (not n) (refuse k c) (cond a (refuse 8 c) (cond o (refuse 9 c) (cond q (refuse 10 c) s))) ≡ refuse (cond (not n) k (cond a 8 (cond o 9 10))) c
+in-order false a o q k c s h = refl
+in-order true true o q k c s h = refl
+in-order true false true q k c s h = refl
+in-order true false false q k c s h = ap (λ (b : Bool). cond b (refuse 10 c) s) (h refl)
 
--- The four gates in their order are the tests of the rules.
-abbrev gates : Bool → Bool → Bool → Bool → Answer → Gate
-gates some against odd reached absent =
-    firstOf (refusedIf (not some) absent) (firstOf (refusedIf against AgainstRead) (firstOf (refusedIf odd OddPointer) (refusedIf (not reached) PastPages)))
+module _ (isRead : Bool) (p : ℕ) (pages : List ℕ) (none : Bool) where
+  -- A gate that refuses: there is no such page, or refusal 8 or 9 stands before.
+  pub refuses : (a : Answer) → replyOf a ≡ rules.refusal (refusalOf isRead p pages) → none || (against isRead p || oddFixed p) ≡ true
+      → (none ≡ true → length pages ≤ address p / 256) → Guards isRead p pages (Refused a)
+  unfolding ifAny refusalOf past
+  refuses a e t h width c s some =
+      in-order (some? pages) (against isRead p) (oddFixed p) _ (cond (rcv p) 7 5) c s (λ f. lt-ltb (256 * length pages) (address p + width) (omega (arith, h (left none f t))))
+      ∙ ap (λ (r : Reply). record { reply = r; chip = c }) (sym e)
+    where
+      left : (b : Bool) → against isRead p || oddFixed p ≡ false → b || (against isRead p || oddFixed p) ≡ true → b ≡ true
+      left true f g = refl
+      left false f g = absurd (true≢false (sym g ∙ f))
 
-in-order : (n a o q : Bool) (x : Answer) (k : ℕ) → replyOf x ≡ refusal k → (c : Chip) (s : Effect)
-    → cond (not n) (refuse k c) (cond a (refuse 8 c) (cond o (refuse 9 c) (cond (not q) (refuse 10 c) s))) ≡ through (gates n a o q x) c s
-in-order false a o q x k e c s = ap (λ (r : Reply). record { reply = r; chip = c }) (sym e)
-in-order true true o q x k e c s = refl
-in-order true false true q x k e c s = refl
-in-order true false false false x k e c s = refl
-in-order true false false true x k e c s = refl
-
-closed : {a : Answer} → Refused a ≡ Open → ⊥
-closed e = let z : _≡_ {A = ℕ} 0 1 = cc in omega arith
-
-open-last : (n a o q : Bool) (x : Answer) → gates n a o q x ≡ Open → q ≡ true
-open-last false a o q x e = absurd (closed e)
-open-last true true o q x e = absurd (closed e)
-open-last true false true q x e = absurd (closed e)
-open-last true false false false x e = absurd (closed e)
-open-last true false false true x e = refl
-
--- `reached` tells whether the pages reach the end of the access
-pub guards : (isRead : Bool) (width p : ℕ) (row : List Page) (absent : Answer) {reached : Bool} {end : ℕ} → replyOf absent ≡ refusal (cond (rcv p) 7 5)
-    → reached ≡ leb end (256 * length (used row)) → end ≡ p % 2048 + width
-    → Guards isRead width p row (gates (some? (used row)) (against isRead p) (oddFixed p) reached absent)
-unfolding ifAny ifOpen past address
-guards isRead width p row absent {reached} {end} f e h =
-    let n = some? (used row) in
-    let a = against isRead p in
-    let o = oddFixed p in
-    record {
-      step = λ c s g. rw (g, ltb-not, ← h, ← e) (in-order n a o reached absent _ f (inRegisters (setPointer p) c) s);
-      room = λ g. omega (arith, leb-true end _ (sym e ∙ open-last n a o reached absent g));
-    }
+  -- A gate that is open: the tests before 10 do not hold.
+  pub opens : (at rest : ℕ) → none || (against isRead p || oddFixed p) ≡ false → Stands pages p at rest → Guards isRead p pages (Open at rest)
+  unfolding ifAny unlessPast some?
+  opens at rest f h =
+      let g = or-right none (against isRead p || oddFixed p) f in
+      (h, λ width c s. rw (has pages (h .reaches), or-left (against isRead p) (oddFixed p) g, or-right (against isRead p) (oddFixed p) g))
+    where
+      has : (l : List ℕ) → address p < 256 * length l → some? l ≡ true
+      has [] r = absurd (omega arith)
+      has (x ∷ xs) r = refl
 
 -- An access goes by the pages of the packet that is meant.
 module _ (c : Chip) (w : WellFormed c) (access : List ℕ → Effect) where
@@ -92,33 +72,35 @@ module _ (c : Chip) (w : WellFormed c) (access : List ℕ → Effect) where
       go false = refl
       go true = by-head (c .pool .rx) refl
 
--- What the code knows once the row of the packet that is meant has been taken from the map and checked.
-pub record Checked (r : Registers) (m : List (List Page)) (isRead : Bool) (width : ℕ) (row : List Page) (g : Gate) : Type 0 where
-  pub ready : Ready r m
-  pub pages : used row ≡ getD (pagesOf m) (meantBy (r .pointer) (r .packet) (entries (r .rx))) []
-  pub guards : Guards isRead width (r .pointer) row g
+module _ {w s q : List ℕ} (k : Ready w s q) (mem : List ℕ) where
+  pub enters : (isRead : Bool) (width : ℕ) (f : List ℕ → Effect)
+      → ifPacket (view w s q mem) (λ pages. ifOpen isRead width pages (view w s q mem) (f pages))
+      ≡ ifAny isRead width (word w 19) (pagesMeant w s q) (view w s q mem) (f (pagesMeant w s q))
+  unfolding ifAny ifOpen
+  enters isRead width f = by-meant (view w s q mem) (k .well) (λ pages. ifOpen isRead width pages (view w s q mem) (f pages))
 
-pub checked-is : {r : Registers} {m : List (List Page)} {isRead : Bool} {width k : ℕ} {row : List Page} {g : Gate} → Ready r m → used row ≡ getD (pagesOf m) k []
-    → k ≡ meantBy (r .pointer) (r .packet) (entries (r .rx)) → Guards isRead width (r .pointer) row g → Checked r m isRead width row g
-checked-is {m = m} w e f h = record { ready = w; pages = e ∙ ap (λ (i : ℕ). getD (pagesOf m) i []) f; guards = h }
+  -- So it is what the gate says.
+  pub stopped : (isRead : Bool) (width : ℕ) (f : List ℕ → Effect) (a : Answer) → Guards isRead (word w 19) (pagesMeant w s q) (Refused a) → 0 < width
+      → Makes (ifPacket (view w s q mem) (λ pages. ifOpen isRead width pages (view w s q mem) (f pages))) a w s q mem
+  stopped isRead width f a g some = rw (enters isRead width f ∙ g width _ _ some) (record { chip = refl; reply = refl; sound = k .sound })
 
-module _ {r : Registers} {m : List (List Page)} {isRead : Bool} {width : ℕ} {row : List Page} {g : Gate} (k : Checked r m isRead width row g) (mem : List ℕ) where
-  -- An access is what the gate does with it.
-  passes : (f : List ℕ → Effect) → ifPacket (view r m mem) (λ pages. ifOpen isRead width pages (view r m mem) (f pages)) ≡ through g (view r m mem) (f (used row))
-  unfolding ifAny
-  passes f =
-      by-meant (view r m mem) (k .ready .well) (λ pages. ifOpen isRead width pages (view r m mem) (f pages))
-      ∙ ap (λ (l : List ℕ). ifAny isRead width l (view r m mem) (f l)) (sym (k .pages))
-      ∙ k .guards .step (view r m mem) (f (used row)) refl
+  pub passed : (isRead : Bool) (width : ℕ) (f : List ℕ → Effect) {at rest : ℕ} {a : Answer} {w′ mem′ : List ℕ} → Guards isRead (word w 19) (pagesMeant w s q) (Open at rest)
+      → Makes (unlessPast width (word w 19) (pagesMeant w s q) (view w s q mem) (f (pagesMeant w s q))) a w′ s q mem′
+      → Makes (ifPacket (view w s q mem) (λ pages. ifOpen isRead width pages (view w s q mem) (f pages))) a w′ s q mem′
+  passed isRead width f g m = rw (enters isRead width f ∙ g .1 width _ _) m
 
-  pub refuses : (a : Answer) → g ≡ Refused a → (f : List ℕ → Effect)
-      → Touches (ifPacket (view r m mem) (λ pages. ifOpen isRead width pages (view r m mem) (f pages))) m mem (record { answer = a; registers = r })
-  refuses a e f = rw (passes f, e) (record { chip = refl; reply = refl; queues = k .ready .queues })
-
-  module _ (e : g ≡ Open) where
-    pub goes : (f : List ℕ → Effect) (mem′ : List ℕ) (x : Touched) → Touches (f (used row)) m mem′ x
-        → Touches (ifPacket (view r m mem) (λ pages. ifOpen isRead width pages (view r m mem) (f pages))) m mem′ x
-    goes f mem′ x t = rw (passes f, e) t
-
-    pub room : length mem ≡ 6144 → Room (address (r .pointer) + width) row mem
-    room h = record { whole = h; below = subst (Below 24) (sym (k .pages)) (k .ready .well .pages .within _); within = k .guards .room e }
+  -- The bytes of an access that may go on lie in the memory.
+  pub room : {at rest : ℕ} → length mem ≡ 6144 → Stands (pagesMeant w s q) (word w 19) at rest → Room w mem at rest
+  room {at} {rest} full h =
+      let below : Below 24 (pagesMeant w s q) = k .well .pages .within _ in
+      record {
+        kept = k .sound .kept;
+        full = full;
+        inside = omega (arith, h .lies, place-room 24 (pagesMeant w s q) (address (word w 19)) below (h .reaches));
+        below = subst (Below 24) (sym (h .left)) (λ p m. below p (member-drop (address (word w 19) / 256) (pagesMeant w s q) p m));
+      }
+    where
+      member-drop : (n : ℕ) (l : List ℕ) (p : ℕ) → member p (drop n l) ≡ true → member p l ≡ true
+      member-drop zero l p m = m
+      member-drop (suc n) [] p m = m
+      member-drop (suc n) (x ∷ xs) p m = member-later p x xs (member-drop n xs p m)

@@ -1,2 +1,2 @@
-pub mod Facts
 pub mod Gates
+pub mod Behind

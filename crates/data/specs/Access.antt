@@ -1,18 +1,22 @@
--- What the parts of a data access promise: which packet the pointer means, whether the access may go on, and how many bytes it moves.
+-- What the parts of a data access promise: which packet the pointer means, where the first byte lies or why it is refused, and what is behind the gate.
 use mathlib.Core.Path.{_≡_}
 use mathlib.Core.Bool.{Bool, true, false, cond, not}
-use mathlib.Core.List.{List, [], _∷_}
-use Prim.Native.Nat.{ℕ, _+_, _*_, _≤_}
-use lib.ListN.{length}
+use mathlib.Core.List.{List, [], _∷_, map}
+use Prim.Native.Nat.{ℕ, _*_, _/_, _%_, _<_}
+use lib.ListN.{length, getD, drop}
 use Rattle.rules.specs.Bits.{lowByte, highByte}
 use Rattle.rules.specs.Lists.{some?}
-use Rattle.rules.specs.Chip.{Chip}
-use Rattle.rules.specs.Answers.{Effect, refuse}
-use Rattle.rules.specs.Data.{rcv, address, ifOpen}
-use Rattle.store.specs.declared.Page.{Page}
-use Rattle.store.specs.Views.{used}
+use Rattle.rules.specs.Chip.{Registers, Chip}
+use Rattle.rules.specs.Fields.{setPointer, inMemory}
+use Rattle.rules.specs.Answers.{Effect, doneWith, did, refuse}
+use Rattle.rules.specs.Packet.{place, getBytes, putBytes}
+use Rattle.rules.specs.Data.{rcv, against, oddFixed, past, address, next, moved, valueOf}
+use Rattle.lists.specs.Bytes.{Below}
+use Rattle.sets.specs.Views.{pagesOf}
 use Rattle.state.specs.declared.Answer.{Answer}
-use Rattle.state.specs.View.{replyOf}
+use Rattle.state.specs.Meaning.{replyOf}
+use Rattle.state.specs.View.{word, queueIn, view, Kept}
+use Rattle.state.specs.Promise.{Sound, Makes}
 use Rattle.data.specs.declared.Gate.{Gate}
 use Rattle.data.specs.declared.Gate.the-variants.{Open, Refused}
 
@@ -33,25 +37,61 @@ headOr24 (k ∷ ks) = k
 unfoldable pub meantBy : ℕ → ℕ → List ℕ → ℕ
 meantBy pointer packet rx = cond (rcv pointer) (headOr24 rx) packet
 
--- an access to a packet with these pages: refusal 7 or 5 where there are none, then 8, 9 and 10
-unfoldable pub ifAny : Bool → ℕ → List ℕ → Chip → Effect → Effect
-ifAny isRead width pages c s = cond (not (some? pages)) (refuse (cond (rcv (c .regs .pointer)) 7 5) c) (ifOpen isRead width pages c s)
+abbrev pub meantIn : List ℕ → List ℕ → ℕ
+meantIn w q = meantBy (word w 19) (word w 17 % 256) (queueIn 0 (word w 6) q)
 
--- a gate that refuses where the test holds, and the first of two that refuses
-abbrev pub refusedIf : Bool → Answer → Gate
-refusedIf true a = Refused a
-refusedIf false a = Open
+abbrev pub pagesMeant : List ℕ → List ℕ → List ℕ → List ℕ
+pagesMeant w s q = getD (map pagesOf s) (meantIn w q) []
 
-abbrev pub firstOf : Gate → Gate → Gate
-firstOf Open g = g
-firstOf (Refused a) g = Refused a
+-- the number of the refusal where the first byte is refused: 7 or 5 where the packet has no pages, then 8, 9 and 10
+unfoldable pub refusalOf : Bool → ℕ → List ℕ → ℕ
+refusalOf isRead p pages = cond (not (some? pages)) (cond (rcv p) 7 5) (cond (against isRead p) 8 (cond (oddFixed p) 9 10))
 
--- what a gate does with the access behind it
-abbrev pub through : Gate → Chip → Effect → Effect
-through Open c s = s
-through (Refused a) c s = record { reply = replyOf a; chip = c }
+-- an access by the pointer p to a packet with these pages: refusal 7 or 5 where there are none, then 8, 9 and 10
+unfoldable pub ifAny : Bool → ℕ → ℕ → List ℕ → Chip → Effect → Effect
+ifAny isRead width p pages c s =
+    cond (not (some? pages)) (refuse (cond (rcv p) 7 5) c)
+    (cond (against isRead p) (refuse 8 c) (cond (oddFixed p) (refuse 9 c) (cond (past width p pages) (refuse 10 c) s)))
 
--- the gate is that of the rules; and behind an open one the bytes are within the packet's pages
-pub record Guards (isRead : Bool) (width pointer : ℕ) (row : List Page) (g : Gate) : Type 0 where
-  pub step : (c : Chip) (s : Effect) → c .regs .pointer ≡ pointer → ifAny isRead width (used row) c s ≡ through g c s
-  pub room : g ≡ Open → address pointer + width ≤ 256 * length (used row)
+-- what is behind the gate: refusal 10 where a byte after the first is past the packet's pages, else the access
+unfoldable pub unlessPast : ℕ → ℕ → List ℕ → Chip → Effect → Effect
+unlessPast width p pages c s = cond (past width p pages) (refuse 10 c) s
+
+abbrev pub readBehind : ℕ → List ℕ → Chip → Effect
+readBehind width pages c =
+    unlessPast width (c .regs .pointer) pages c (doneWith (valueOf (getBytes width (address (c .regs .pointer)) pages (c .memory))) (moved width c))
+
+abbrev pub writeBehind : List ℕ → List ℕ → Chip → Effect
+writeBehind bytes pages c =
+    unlessPast (length bytes) (c .regs .pointer) pages c (did (inMemory (putBytes bytes (address (c .regs .pointer)) pages) (moved (length bytes) c)))
+
+-- the first byte lies at `at`, in the lowest page of `rest`, which are the packet's pages from there on
+pub record Stands (pages : List ℕ) (p at rest : ℕ) : Type 0 where
+  pub lies : at ≡ place pages (address p)
+  pub left : pagesOf rest ≡ drop (address p / 256) pages
+  pub reaches : address p < 256 * length pages
+
+-- what a gate says of an access by the pointer p to a packet with these pages
+abbrev pub Guards : Bool → ℕ → List ℕ → Gate → Type 0
+Guards isRead p pages (Open at rest) = Stands pages p at rest × ((width : ℕ) (c : Chip) (s : Effect) → ifAny isRead width p pages c s ≡ unlessPast width p pages c s)
+Guards isRead p pages (Refused a) = (width : ℕ) (c : Chip) (s : Effect) → 0 < width → ifAny isRead width p pages c s ≡ record { reply = replyOf a; chip = c }
+
+-- what an access behind the gate may rest on: words and memory are whole, and its bytes lie in pages of the memory
+pub record Room (w mem : List ℕ) (at rest : ℕ) : Type 0 where
+  pub kept : Kept w
+  pub full : length mem ≡ 6144
+  pub inside : at < 6144
+  pub below : Below 24 (pagesOf rest)
+
+-- what it promises, of any packet in which it stands so
+abbrev pub Reads : ℕ → ℕ → ℕ → List ℕ → List ℕ → Answer → List ℕ → Type 0
+Reads width at rest w mem a w′ =
+    (pages s q : List ℕ) → Stands pages (word w 19) at rest → Sound w s q → Makes (readBehind width pages (view w s q mem)) a w′ s q mem
+
+abbrev pub Writes : List ℕ → ℕ → ℕ → List ℕ → List ℕ → Answer → List ℕ → List ℕ → Type 0
+Writes bytes at rest w mem a w′ mem′ =
+    (pages s q : List ℕ) → Stands pages (word w 19) at rest → Sound w s q → Makes (writeBehind bytes pages (view w s q mem)) a w′ s q mem′
+
+-- the pointer after an access
+abbrev pub moves : ℕ → Registers → Registers
+moves width r = setPointer (next width (r .pointer)) r

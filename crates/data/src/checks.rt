@@ -1,30 +1,37 @@
-// Which packet the pointer means, and whether an access to it may go on.
+// Which packet the pointer means, and where the first byte of an access lies or why it is refused.
 use crate::Gate;
-use crate::bytes::width_of;
+use sets::Address;
+use sets::Packet;
 use state::Answer;
-use store::Packet;
-use store::Page;
-use store::Queue;
+use state::PACKET;
+use state::PACKETS;
+use state::PAGE_BYTES;
+use state::POINTER;
+use state::RX_COUNT;
+use state::flags;
 ghost use mathlib.Core.Path.{_≡_};
-ghost use mathlib.Core.Bool.{cond};
-ghost use Rattle.rules.specs.Answers.{refusal};
-ghost use Rattle.rules.specs.Data.{rcv, against, oddFixed};
-ghost use Rattle.state.specs.View.{replyOf};
-ghost use Rattle.store.specs.Views.{used, rowOf, entries, SoundQueue};
-ghost use Rattle.data.specs.Access.{widthOf, meantBy, refusedIf, firstOf, Guards};
+ghost use Prim.Native.Nat.{_+_, _*_, _%_, _<_};
+ghost use lib.ListN.{getD};
+ghost use Rattle.rules.specs.Answers as rules;
+ghost use Rattle.rules.specs.Data.{against, oddFixed};
+ghost use Rattle.sets.specs.Views.{pagesOf};
+ghost use Rattle.state.specs.Meaning.{replyOf};
+ghost use Rattle.state.specs.View.{word, counts, Kept};
+ghost use Rattle.state.specs.Promise.{QueuesIn, Sound};
+ghost use Rattle.data.specs.Access.{meantIn, pagesMeant, refusalOf, Guards};
 
-// RCV set means the head of RX, clear means the packet number register. No packet has number 24, which stands for the head of an empty RX.
-pub fn meant(pointer: u16, packet: u8, rx: Queue) -> Packet
-    requires { ⌜ SoundQueue rx ⌝ }
-    ensures { λ k. ⌜ k .0 ≡ meantBy pointer packet (entries rx) ⌝ }
+// RCV set means the head of RX, clear means the packet number register. No packet has the number PACKETS, which stands for the head of an empty RX.
+fn meant(words: &[u16], queues: &[u8]) -> Packet
+    requires { ⌜ Kept (now words) × QueuesIn (counts (now words)) (now queues) ⌝ }
+    ensures { λ k. ⌜ k .0 ≡ meantIn (now (words .entry)) (now (queues .entry)) ⌝ }
 {
-    if !bits::is_set(pointer, 15) {
-        return Packet(packet);
+    if !bits::is_set(words[POINTER], flags::RCV) {
+        return Packet(bits::low_byte(words[PACKET]));
     }
-    if rx.count == 0 {
-        return Packet(24);
+    if words[RX_COUNT] == 0 {
+        return Packet(PACKETS);
     }
-    store::head(rx)
+    pool::rx_head(queues)
 }
 
 // Refusal 8: is the access against the READ bit?
@@ -32,59 +39,65 @@ fn is_against(pointer: u16, reading: bool) -> bool
     ensures { λ b. ⌜ b ≡ against reading pointer ⌝ }
 {
     if reading {
-        return !bits::is_set(pointer, 13);
+        return !bits::is_set(pointer, flags::READ);
     }
-    bits::is_set(pointer, 13)
+    bits::is_set(pointer, flags::READ)
 }
 
 // Refusal 9: is the pointer odd, and AUTO INCR clear?
 fn is_odd_fixed(pointer: u16) -> bool
     ensures { λ b. ⌜ b ≡ oddFixed pointer ⌝ }
 {
-    if bits::is_set(pointer, 0) {
-        return !bits::is_set(pointer, 14);
-    }
-    false
-}
-
-// Refusal 7 or 5: no packet is meant.
-fn absent(pointer: u16) -> Answer
-    ensures { λ a. ⌜ replyOf a ≡ refusal (cond (rcv pointer) 7 5) ⌝ }
-{
-    if bits::is_set(pointer, 15) {
-        return Answer::RxEmpty;
-    }
-    Answer::NotAllocated
-}
-
-fn refused_if(test: bool, answer: Answer) -> Gate
-    ensures { λ g. ⌜ g ≡ refusedIf test answer ⌝ }
-{
-    if test {
-        return Gate::Refused(answer);
-    }
-    Gate::Open
-}
-
-// The first of the two that refuses.
-fn first_of(a: Gate, b: Gate) -> Gate
-    ensures { λ g. ⌜ g ≡ firstOf a b ⌝ }
-{
-    match a {
-        Gate::Refused(answer) => Gate::Refused(answer),
-        Gate::Open => b,
-    }
+    bits::both(
+        bits::is_set(pointer, 0),
+        !bits::is_set(pointer, flags::AUTO_INCR),
+    )
 }
 
 // The refusals in their order: 7 or 5, 8, 9, 10.
-pub fn checked(row: [Page; 8], reading: bool, wide: bool, pointer: u16) -> Gate
-    requires { ⌜ row ≡ rowOf (used row) ⌝ }
-    ensures { λ g. ⌜ Guards reading (widthOf wide) pointer row g ⌝ }
+fn refusal(set: u32, reading: bool, pointer: u16) -> Answer
+    ensures { λ a. ⌜ replyOf a ≡ rules.refusal (refusalOf reading pointer (pagesOf set)) ⌝ }
 {
-    let end = pointer as usize % 2048 + width_of(wide) as usize;
-    let none = refused_if(store::unused(row), absent(pointer));
-    let against = refused_if(is_against(pointer, reading), Answer::AgainstRead);
-    let odd = refused_if(is_odd_fixed(pointer), Answer::OddPointer);
-    let past = refused_if(!store::reaches(row, end), Answer::PastPages);
-    first_of(none, first_of(against, first_of(odd, past)))
+    if !sets::has_pages(set) {
+        if bits::is_set(pointer, flags::RCV) {
+            return Answer::RxEmpty;
+        }
+        return Answer::NotAllocated;
+    }
+    if is_against(pointer, reading) {
+        return Answer::AgainstRead;
+    }
+    if is_odd_fixed(pointer) {
+        return Answer::OddPointer;
+    }
+    Answer::PastPages
+}
+
+// Where byte `at` of the set's lowest page lies in memory.
+pub fn place_in(set: u32, at: Address) -> usize
+    requires { ⌜ 0 < set ⌝ }
+    ensures { λ r. ⌜ r ≡ getD (pagesOf set) 0 0 * 256 + at .0 % 256 ⌝ }
+{
+    sets::lowest_page(set).0 as usize * 256 + at.0 as usize % 256
+}
+
+// May an access to the first byte go on?
+fn checked(set: u32, reading: bool, pointer: u16) -> Gate
+    ensures { λ g. ⌜ Guards reading pointer (pagesOf set) g ⌝ }
+{
+    let rest = sets::without(set, pointer as u32 % 2048 / PAGE_BYTES);
+    let refused = bits::either(is_against(pointer, reading), is_odd_fixed(pointer));
+    if bits::either(rest == 0, refused) {
+        return Gate::Refused(refusal(set, reading, pointer));
+    }
+    Gate::Open(place_in(rest, Address(pointer)), rest)
+}
+
+// The same, for the packet that the pointer means.
+pub fn gate_of(words: &[u16], sets: &[u32], queues: &[u8], reading: bool) -> Gate
+    requires { ⌜ Sound (now words) (now sets) (now queues) ⌝ }
+    ensures { λ g. ⌜ Guards reading (word (now (words .entry)) 19) (pagesMeant (now (words .entry)) (now (sets .entry)) (now (queues .entry))) g ⌝ }
+{
+    let set = sets::set_of(sets, meant(words, queues));
+    checked(set, reading, words[POINTER])
 }

@@ -1,74 +1,68 @@
-// The pointer and the data accesses.
-mod checks; // checks.rt: which packet the pointer means, and whether the access may go on
-mod bytes; // bytes.rt: the bytes that an access moves, and the pointer after it
+// The pointer and the data accesses, over the lent state.
+mod checks; // checks.rt: which packet the pointer means, and where the first byte lies or why it is refused
+mod pointer; // pointer.rt: the pointer after an access
+mod reads; // reads.rt: reads behind the gate
+mod writes; // writes.rt: writes behind the gate
 
 use state::Answer;
-use state::Registers;
-use state::Touched;
-use store::Address;
-use store::Page;
 ghost use mathlib.Core.Path.{_≡_};
 ghost use lib.ListN.{length};
 ghost use Rattle.rules.specs.Data.{readData, writeData};
-ghost use Rattle.state.specs.View.{view, Ready, Touches};
+ghost use Rattle.state.specs.View.{view};
+ghost use Rattle.state.specs.Promise.{Ready, Makes};
 ghost use Rattle.data.specs.Access.{widthOf, bytesFor};
 
-// May the access go on?
+// Where the access goes: the place of its first byte, in the lowest page of the set, which is the packet's from there on; or a refusal.
 enum Gate {
-    Open,
+    Open(usize, u32),
     Refused(Answer),
 }
 
 // A data read on a chip that is well formed.
-pub fn read_data(r: Registers, map: [[Page; 8]; 24], memory: &[u8], wide: bool) -> Touched
-    requires { ⌜ Ready r map × (length (now memory) ≡ 6144) ⌝ }
-    ensures { λ t. ⌜ Touches (readData (widthOf wide) (view r map (now (memory .entry)))) map (now (memory .entry)) t ⌝ }
+pub fn read_data(
+    words: &mut [u16],
+    sets: &[u32],
+    queues: &[u8],
+    memory: &[u8],
+    wide: bool,
+) -> Answer
+    requires { ⌜ Ready (now words) (now sets) (now queues) × (length (now memory) ≡ 6144) ⌝ }
+    ensures { λ a. ⌜ Makes (readData (widthOf wide) (view (now (words .entry)) (now (sets .entry)) (now (queues .entry)) (now (memory .entry)))) a (now (words .exit)) (now (sets .entry)) (now (queues .entry)) (now (memory .entry)) ⌝ }
 {
-    let pointer = r.pointer;
-    let rx = r.rx;
-    let row = store::row_of(map, checks::meant(pointer, r.packet, rx));
-    let gate = checks::checked(row, true, wide, pointer);
+    let gate = checks::gate_of(words, sets, queues, true);
     match gate {
-        Gate::Refused(answer) => Touched {
-            answer,
-            registers: r,
-        },
-        Gate::Open => {
-            let value = bytes::get(memory, row, Address(pointer % 2048), wide);
-            let mut registers = r;
-            registers.pointer = bytes::next_pointer(pointer, wide);
-            let answer = Answer::Done(value);
-            Touched { answer, registers }
+        Gate::Refused(answer) => answer,
+        Gate::Open(i, rest) => {
+            if wide {
+                reads::read_word(words, memory, i, rest)
+            } else {
+                reads::read_byte(words, memory, i, rest)
+            }
         }
     }
 }
 
 // A data write on a chip that is well formed.
 pub fn write_data(
-    r: Registers,
-    map: [[Page; 8]; 24],
+    words: &mut [u16],
+    sets: &[u32],
+    queues: &[u8],
     memory: &mut [u8],
     wide: bool,
     value: u16,
-) -> Touched
-    requires { ⌜ Ready r map × (length (now memory) ≡ 6144) ⌝ }
-    ensures { λ t. ⌜ Touches (writeData (bytesFor wide value) (view r map (now (memory .entry)))) map (now (memory .exit)) t ⌝ }
+) -> Answer
+    requires { ⌜ Ready (now words) (now sets) (now queues) × (length (now memory) ≡ 6144) ⌝ }
+    ensures { λ a. ⌜ Makes (writeData (bytesFor wide value) (view (now (words .entry)) (now (sets .entry)) (now (queues .entry)) (now (memory .entry)))) a (now (words .exit)) (now (sets .entry)) (now (queues .entry)) (now (memory .exit)) ⌝ }
 {
-    let pointer = r.pointer;
-    let rx = r.rx;
-    let row = store::row_of(map, checks::meant(pointer, r.packet, rx));
-    let gate = checks::checked(row, false, wide, pointer);
+    let gate = checks::gate_of(words, sets, queues, false);
     match gate {
-        Gate::Refused(answer) => Touched {
-            answer,
-            registers: r,
-        },
-        Gate::Open => {
-            bytes::put(memory, row, Address(pointer % 2048), wide, value);
-            let mut registers = r;
-            registers.pointer = bytes::next_pointer(pointer, wide);
-            let answer = Answer::Done(0);
-            Touched { answer, registers }
+        Gate::Refused(answer) => answer,
+        Gate::Open(i, rest) => {
+            if wide {
+                writes::write_word(words, memory, i, rest, value)
+            } else {
+                writes::write_byte(words, memory, i, rest, value)
+            }
         }
     }
 }

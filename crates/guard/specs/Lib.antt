@@ -1,2 +1,3 @@
 -- What the functions of this crate test.
-pub mod Tests
+pub mod Zeros
+pub mod Pass

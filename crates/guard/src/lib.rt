@@ -1,51 +1,27 @@
-// Is a record of registers and page map canonical and well formed? What document 01's refusal 16 asks of a state.
-mod queues; // queues.rt: the three FIFOs
-mod rows; // rows.rt: the page map
+// Is a state in order: laid out as it must be, and of a chip that is well formed? What document 01's refusal 16 asks.
+mod fifos; // fifos.rt: the three queues
+mod words; // words.rt: the registers
 
-use queues::queues_good;
-use queues::queues_sound;
-use rows::pages_good;
-use rows::rows_sound;
-use state::Registers;
-use store::Page;
+use fifos::entries_good;
+use fifos::queues_sound;
+use words::words_good;
 ghost use mathlib.Core.Path.{_≡_};
+ghost use lib.ListN.{length};
 ghost use Rattle.lists.specs.Facts.{Decides};
-ghost use Rattle.rules.specs.Tests.{numbersGood};
-ghost use Rattle.state.specs.View.{registersOf, Ready};
+ghost use Rattle.state.specs.Promise.{Ready};
 
-// Are bank, packet number and allocation result in range?
-fn numbers_good(r: Registers) -> bool
-    ensures { λ b. ⌜ b ≡ numbersGood 24 (registersOf r .numbers) ⌝ }
+pub fn well_formed(words: &[u16], sets: &[u32], queues: &[u8]) -> bool
+    requires { ⌜ (length (now words) ≡ 32) × (length (now sets) ≡ 24) × (length (now queues) ≡ 72) ⌝ }
+    ensures { λ b. ⌜ Decides b (Ready (now (words .entry)) (now (sets .entry)) (now (queues .entry))) ⌝ }
 {
-    if 8 <= r.bank {
+    if !words_good(words) {
         return false;
     }
-    if 64 <= r.packet {
+    if !sets::sets_good(sets) {
         return false;
     }
-    if r.result < 24 {
-        return true;
-    }
-    r.result == 0x80
-}
-
-pub fn well_formed(r: Registers, map: [[Page; 8]; 24]) -> bool
-    ensures { λ b. ⌜ Decides b (Ready r map) ⌝ }
-{
-    let rx = r.rx;
-    let tx = r.tx;
-    let done = r.done;
-    if !queues_sound(rx, tx, done) {
+    if !queues_sound(words, queues) {
         return false;
     }
-    if !rows_sound(map) {
-        return false;
-    }
-    if !pages_good(map) {
-        return false;
-    }
-    if !numbers_good(r) {
-        return false;
-    }
-    queues_good(map, rx, tx, done)
+    entries_good(words, sets, queues)
 }

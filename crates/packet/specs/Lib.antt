@@ -1,2 +1,2 @@
--- What the functions over a packet's bytes ask of row and memory, and what a stored frame is.
+-- What the functions over a packet's bytes ask of its pages and of memory, and what a stored frame is.
 pub mod Room

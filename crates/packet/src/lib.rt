@@ -1,9 +1,11 @@
-// A packet's bytes in memory. Packet address a lies in page a / 256 of the packet's row, so adjacent addresses may lie in pages that are not adjacent.
+// A packet's bytes in memory. Packet address a lies in page a / 256 of the packet's set, so adjacent addresses may lie in pages that are not adjacent.
 mod access; // access.rt: a byte or a word at an address
 mod fill; // fill.rt: a run of bytes, page by page
 mod frame; // frame.rt: a whole frame
 
+pub use access::place_in;
 pub use access::place_of;
+pub use access::put_word;
 pub use access::read_byte;
 pub use access::read_word;
 pub use access::write_byte;
@@ -15,4 +17,5 @@ pub use fill::fill_page;
 pub use fill::fill_part;
 pub use frame::store_data;
 pub use frame::store_frame;
+pub use frame::write_head;
 pub use frame::write_trailer;

@@ -1,38 +1,26 @@
--- What the proofs of an arrival share.
-use mathlib.Core.Path.{_≡_, refl, ap, sym, _∙_}
+-- What the proofs of a verdict and of an aborted frame share.
+use mathlib.Core.Path.{_≡_, refl, ap, ap₂, sym, _∙_}
 use mathlib.Core.Bool.{Bool, true, false, cond, not}
 use mathlib.Core.List.{List}
-use Prim.Native.Nat.{ℕ, _+_, _≤_, _<_}
-use native.Mathlib.Numerals.{add-one}
-use borrow.Author.Tests.{eq-eqb, ne-eqb}
-use lib.ListN.{length, drop, getD, drop-of-length-le}
-use lib.Seq.{drop-cons}
+use Prim.Native.Nat.{ℕ, _+_, _*_}
+use native.Mathlib.Omega.{arith}
+use lib.ListN.{length, set}
 use lib.Dec.{ltb}
-use Rattle.rules.specs.Bits.{bit}
-use Rattle.rules.specs.Chip.{Registers}
-use Rattle.rules.specs.Receive.{Frame, destination, sameBytes, accepted, dataLength, countOf, pagesFor, needed, dropped, judge, stored, disabled, notAccepted, tooLong, bad, noRoom}
-use Rattle.receive.specs.Arrivals.{withRcr, withControl, filtering}
-
--- Going down two lists of bytes.
-module _ (a b : List ℕ) (k : ℕ) (h : k < length a) (f : k < length b) where
-  pub same-stop : (getD a k 0 ≡ getD b k 0 → ⊥) → sameBytes (drop k a) (drop k b) ≡ false
-  unfolding sameBytes
-  same-stop e = rw (drop-cons a k 0, drop-cons b k 0) (rw (ne-eqb _ _ e))
-
-  pub same-on : getD a k 0 ≡ getD b k 0 → sameBytes (drop k a) (drop k b) ≡ sameBytes (drop (k + 1) a) (drop (k + 1) b)
-  unfolding sameBytes
-  same-on e = rw (drop-cons a k 0, drop-cons b k 0, add-one) (rw (eq-eqb _ _ e))
-
-pub same-end : (a b : List ℕ) (k : ℕ) → length a ≤ k → length b ≤ k → sameBytes (drop k a) (drop k b) ≡ true
-unfolding sameBytes
-same-end a b k h f = rw (drop-of-length-le a {i = k} h, drop-of-length-le b {i = k} f)
+use Rattle.rules.specs.Bits.{bit, setBit, clearBit, flag}
+use Rattle.rules.specs.Chip.{Registers, Chip}
+use Rattle.rules.specs.Fields.{setRcr, setTxEmpty, setOverrun, inRegisters}
+use Rattle.rules.specs.Answers.{Effect, doneWith}
+use Rattle.rules.specs.Receive.{Frame, destination, accepted, dataLength, countOf, pagesFor, needed, dropped, judge, stored, disabled, notAccepted, tooLong, bad, noRoom, abort}
+use Rattle.bits.specs.Laws.{bit-set, bit-set-other}
+use Rattle.state.specs.declared.Answer.{Answer}
+use Rattle.state.specs.declared.Answer.the-variants.{Done}
+use Rattle.state.specs.View.{word, registersIn, Latches, Kept}
+use Rattle.state.specs.Promise.{Sets, sets-as, sets-chip, Does}
+use Rattle.state.specs.Stores.{store-rcr, store-latches}
+use Rattle.receive.specs.Arrivals.{withRcr, withControl}
 
 -- The rules see only what a part is given of the registers.
 module _ (r : Registers) where
-  pub accepted-by : (a : List ℕ) → accepted r a ≡ accepted (filtering (r .receiving .rcr) (r .receiving .station) (r .receiving .table)) a
-  unfolding accepted
-  accepted-by a = refl
-
   pub data-by : (len : ℕ) → dataLength r len ≡ dataLength (withRcr (r .receiving .rcr)) len
   unfolding dataLength
   data-by len = refl
@@ -51,3 +39,32 @@ module _ (r : Registers) where
       → judge r free f ≡ cond (not a) disabled (cond (not b) notAccepted (cond x tooLong (cond d bad (cond y noRoom stored))))
   unfolding judge
   judge-is free f a b x d y e₁ e₂ e₃ e₄ e₅ = rw (e₁, e₂, e₃, e₄, e₅)
+
+-- A change of the registers is a step that answers v; and it may come before a step.
+pub does-with : {f : Registers → Registers} {w w′ : List ℕ} → (v : ℕ) → Sets f w w′ → Does (λ c. doneWith v (inRegisters f c)) w (Done v) w′
+does-with v a = record { step = λ s q mem. ap (doneWith v) (sets-chip a s q mem); still = a .still; kept = a .kept }
+
+pub does-after : {f : Chip → Effect} {g : Registers → Registers} {w w′ w″ : List ℕ} {a : Answer} → Sets g w w′ → Does f w′ a w″ → Does (λ c. f (inRegisters g c)) w a w″
+does-after {f} a d = record { step = λ s q mem. d .step s q mem ∙ ap f (sets-chip a s q mem); still = d .still ∙ a .still; kept = d .kept }
+
+-- RX_ABORT set
+pub sets-abort : (y : ℕ) (w : List ℕ) → Kept w → y ≡ setBit 0 (word w 2) → Sets abort w (set w 2 y)
+sets-abort y w k e = sets-as (store-rcr y w k) (ap (λ (x : ℕ). setRcr x (registersIn w)) e)
+
+-- RX_OVRN set, beside TX EMPTY, which stays
+overrun-in : (x : ℕ) (a b : Bool) → x ≡ 4 * flag a + 16 * flag b → setBit 4 x ≡ 4 * flag a + 16 * flag true
+unfolding setBit clearBit flag
+overrun-in x true true e = rw e refl
+overrun-in x true false e = rw e refl
+overrun-in x false true e = rw e refl
+overrun-in x false false e = rw e refl
+
+overrun-latched : (x : ℕ) → Latches x → Latches (setBit 4 x)
+overrun-latched x l =
+    overrun-in x (bit 2 x) (bit 4 x) l
+    ∙ ap₂ (λ (a b : Bool). 4 * flag a + 16 * flag b) (sym (bit-set-other 4 x 2 (λ e. absurd (omega arith)))) (sym (bit-set 4 x))
+
+pub sets-overrun : (y : ℕ) (w : List ℕ) → Kept w → y ≡ setBit 4 (word w 13) → Sets (setOverrun true) w (set w 13 y)
+sets-overrun y w k e =
+    sets-as (store-latches y (rw e (overrun-latched (word w 13) (k .fixed .latched))) w k)
+    (rw e (ap₂ (λ (a b : Bool). setTxEmpty a (setOverrun b (registersIn w))) (bit-set-other 4 (word w 13) 2 (λ x. absurd (omega arith))) (bit-set 4 (word w 13))))

@@ -1,3 +1,5 @@
+-- What the proofs of an arrival share.
+pub mod Places
 pub mod Facts
 pub mod Storing
 pub mod Arrives

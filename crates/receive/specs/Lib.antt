@@ -1,2 +1,2 @@
--- What the parts of an arrival promise.
+-- What the parts of an arrival ask and promise.
 pub mod Arrivals

@@ -1,79 +1,103 @@
-// The destination address: the first six bytes of a frame, lent as a part of it.
+// The destination address: the first six bytes of a frame, lent as a part of it. The station address and the multicast table stand in words, two bytes each.
+use state::RCR;
+use state::STATION;
+use state::TABLE;
+use state::flags;
 ghost use mathlib.Core.Path.{_≡_};
 ghost use mathlib.Core.Bool.{_&&_, _||_};
-ghost use Prim.Native.Nat.{_<_};
+ghost use mathlib.Core.List.{[]};
+ghost use Prim.Native.Nat.{_/_, _%_, _<_};
+ghost use lib.Dec.{eqb};
 ghost use lib.ListN.{length};
 ghost use Rattle.rules.specs.Bits.{bit};
 ghost use Rattle.rules.specs.Crc.{hash};
 ghost use Rattle.rules.specs.Receive.{sameBytes, broadcast, group, inTable, accepted, groupBits};
-ghost use Rattle.receive.specs.Arrivals.{filtering};
+ghost use Rattle.state.specs.View.{word, bytes, registersIn};
 
-fn same_bytes(other: [u8; 6], address: &[u8]) -> bool
-    requires { ⌜ length (now address) ≡ 6 ⌝ }
-    ensures { λ b. ⌜ b ≡ sameBytes (now (address .entry)) other ⌝ }
+// Are the two bytes those of the word, lower first?
+fn is_pair(low: u8, high: u8, x: u16) -> bool
+    ensures { λ b. ⌜ b ≡ eqb low (x % 256) && eqb high (x / 256) ⌝ }
 {
-    let mut k = 0;
-    while k < 6 {
-        if address[k] != other[k] {
-            return false;
-        }
-        k += 1;
+    bits::word(low, high) == x
+}
+
+// Are the six bytes those of three words?
+fn is_address(address: &[u8], x: u16, y: u16, z: u16) -> bool
+    requires { ⌜ length (now address) ≡ 6 ⌝ }
+    ensures { λ b. ⌜ b ≡ sameBytes (now (address .entry)) (bytes x (bytes y (bytes z []))) ⌝ }
+{
+    if !is_pair(address[0], address[1], x) {
+        return false;
     }
-    true
+    if !is_pair(address[2], address[3], y) {
+        return false;
+    }
+    is_pair(address[4], address[5], z)
 }
 
 pub fn is_broadcast(address: &[u8]) -> bool
     requires { ⌜ length (now address) ≡ 6 ⌝ }
     ensures { λ b. ⌜ b ≡ broadcast (now (address .entry)) ⌝ }
 {
-    let ones = [0xff; 6];
-    same_bytes(ones, address)
+    is_address(address, 0xffff, 0xffff, 0xffff)
+}
+
+fn is_station(address: &[u8], words: &[u16]) -> bool
+    requires { ⌜ (length (now address) ≡ 6) × (length (now words) ≡ 32) ⌝ }
+    ensures { λ b. ⌜ b ≡ sameBytes (now (address .entry)) (registersIn (now (words .entry)) .receiving .station) ⌝ }
+{
+    is_address(
+        address,
+        words[STATION],
+        words[STATION + 1],
+        words[STATION + 2],
+    )
 }
 
 pub fn is_group(address: &[u8]) -> bool
     requires { ⌜ length (now address) ≡ 6 ⌝ }
     ensures { λ b. ⌜ b ≡ group (now (address .entry)) ⌝ }
 {
-    bits::byte_is_set(address[0], 0)
+    bits::byte_is_set(address[0], flags::GROUP)
 }
 
-// The upper three bits of the hash choose the table byte, the lower three the bit.
-fn in_table(table: [u8; 8], hash: u8) -> bool
-    requires { ⌜ hash < 64 ⌝ }
-    ensures { λ b. ⌜ b ≡ inTable table hash ⌝ }
+// The upper three bits of the hash choose the table byte, the lower three the bit: the upper two the word, the lower four the bit in it.
+fn in_table(words: &[u16], hash: u8) -> bool
+    requires { ⌜ (length (now words) ≡ 32) × (hash < 64) ⌝ }
+    ensures { λ b. ⌜ b ≡ inTable (registersIn (now (words .entry)) .receiving .table) hash ⌝ }
 {
-    bits::byte_is_set(table[(hash / 8) as usize], hash % 8)
+    bits::is_set(words[TABLE + (hash / 16) as usize], hash as u16 % 16)
 }
 
-// A group address with RCR bit 2, or with its table bit set.
-fn is_wanted_group(address: &[u8], rcr: u16, table: [u8; 8]) -> bool
-    requires { ⌜ length (now address) ≡ 6 ⌝ }
-    ensures { λ b. ⌜ b ≡ group (now (address .entry)) && (bit 2 rcr || inTable table (hash (now (address .entry)))) ⌝ }
+// A group address with ALMUL, or with its table bit set.
+fn is_wanted_group(address: &[u8], words: &[u16]) -> bool
+    requires { ⌜ (length (now address) ≡ 6) × (length (now words) ≡ 32) ⌝ }
+    ensures { λ b. ⌜ b ≡ group (now (address .entry)) && (bit 2 (word (now (words .entry)) 2) || inTable (registersIn (now (words .entry)) .receiving .table) (hash (now (address .entry)))) ⌝ }
 {
     if !is_group(address) {
         return false;
     }
-    if bits::is_set(rcr, 2) {
+    if bits::is_set(words[RCR], flags::ALMUL) {
         return true;
     }
-    in_table(table, crc::hash_of(address))
+    in_table(words, crc::hash_of(address))
 }
 
-// All with RCR bit 1; broadcast; a group address that is wanted; the station address.
-pub fn is_accepted(address: &[u8], rcr: u16, station: [u8; 6], table: [u8; 8]) -> bool
-    requires { ⌜ length (now address) ≡ 6 ⌝ }
-    ensures { λ b. ⌜ b ≡ accepted (filtering rcr station table) (now (address .entry)) ⌝ }
+// All with PRMS; broadcast; a group address that is wanted; the station address.
+pub fn is_accepted(address: &[u8], words: &[u16]) -> bool
+    requires { ⌜ (length (now address) ≡ 6) × (length (now words) ≡ 32) ⌝ }
+    ensures { λ b. ⌜ b ≡ accepted (registersIn (now (words .entry))) (now (address .entry)) ⌝ }
 {
-    if bits::is_set(rcr, 1) {
+    if bits::is_set(words[RCR], flags::PRMS) {
         return true;
     }
     if is_broadcast(address) {
         return true;
     }
-    if is_wanted_group(address, rcr, table) {
+    if is_wanted_group(address, words) {
         return true;
     }
-    same_bytes(station, address)
+    is_station(address, words)
 }
 
 // What the status word says of a group address that is not broadcast: bit 0, and the hash in 6 to 1.
@@ -87,5 +111,5 @@ pub fn group_bits(address: &[u8]) -> u16
     if is_broadcast(address) {
         return 0;
     }
-    2 * crc::hash_of(address) as u16 + 1
+    2 * crc::hash_of(address) as u16 + (1 << flags::MULTCAST)
 }

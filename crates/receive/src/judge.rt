@@ -1,20 +1,24 @@
 // What becomes of a frame: the first that holds.
 use crate::Verdict;
 use crate::address::is_accepted;
+use crate::length::LONGEST_STORED;
+use crate::length::SHORTEST;
 use crate::length::data_length;
 use crate::length::pages_for;
-use state::Registers;
-use store::Page;
+use state::CONTROL;
+use state::RCR;
+use state::RESERVED;
+use state::flags;
 ghost use mathlib.Core.Path.{_≡_};
 ghost use mathlib.Core.Bool.{_||_};
-ghost use Prim.Native.Nat.{_+_, _≤_};
+ghost use mathlib.Core.List.{map};
+ghost use Prim.Native.Nat.{_+_, _%_, _≤_};
 ghost use lib.Dec.{ltb};
 ghost use lib.ListN.{length};
 ghost use Rattle.rules.specs.Lists.{freeBelow};
-ghost use Rattle.rules.specs.WellFormed.{GoodPages};
-ghost use Rattle.rules.specs.Receive.{dropped, judge};
-ghost use Rattle.store.specs.Views.{pagesOf};
-ghost use Rattle.state.specs.View.{registersOf};
+ghost use Rattle.rules.specs.Receive.{dropped, needed, judge};
+ghost use Rattle.sets.specs.Views.{pagesOf};
+ghost use Rattle.state.specs.View.{word, registersIn};
 ghost use Rattle.receive.specs.Arrivals.{arrivalOf, frameOf, withControl};
 
 // Flagged or under 64 bytes.
@@ -27,54 +31,46 @@ fn is_flawed(frame: &[u8], badcrc: bool, alignment: bool) -> bool
     if alignment {
         return true;
     }
-    frame.len() < 64
+    frame.len() < SHORTEST
 }
 
-// Such a frame is kept with control bit 14.
+// Such a frame is dropped unless RCV_BAD is set.
 fn is_dropped(control: u16, frame: &[u8], badcrc: bool, alignment: bool) -> bool
     ensures { λ b. ⌜ b ≡ dropped (withControl control) (frameOf (now (frame .entry)) badcrc alignment) ⌝ }
 {
     if is_flawed(frame, badcrc, alignment) {
-        return !bits::is_set(control, 14);
+        return !bits::is_set(control, flags::RCV_BAD);
     }
     false
 }
 
-// Fewer pages are free than the frame needs and are reserved for transmit.
-fn is_full(free: usize, need: usize, reserved: u8) -> bool
-    requires { ⌜ need ≤ 8 ⌝ }
-    ensures { λ b. ⌜ b ≡ ltb free (need + reserved) ⌝ }
+// Fewer pages are free than the frame needs together with those reserved for transmit, the low byte of their word.
+fn is_full(words: &[u16], sets: &[u32], len: usize) -> bool
+    requires { ⌜ (length (now words) ≡ 32) × (18 ≤ len) × (len ≤ 1532) ⌝ }
+    ensures { λ b. ⌜ b ≡ ltb (length (freeBelow 24 (map pagesOf (now (sets .entry))))) (needed (registersIn (now (words .entry))) len + word (now (words .entry)) 5 % 256) ⌝ }
 {
-    free < need + reserved as usize
+    let need = pages_for(data_length(words[RCR], len));
+    sets::free_count(sets) < need + (words[RESERVED] % 256) as u32
 }
 
-pub fn judged(
-    r: Registers,
-    map: [[Page; 8]; 24],
-    frame: &[u8],
-    badcrc: bool,
-    alignment: bool,
-) -> Verdict
-    requires { ⌜ (18 ≤ length (now frame)) × GoodPages 24 (pagesOf map) ⌝ }
-    ensures { λ v. ⌜ arrivalOf v ≡ judge (registersOf r) (length (freeBelow 24 (pagesOf map))) (frameOf (now (frame .entry)) badcrc alignment) ⌝ }
+pub fn judged(words: &[u16], sets: &[u32], frame: &[u8], badcrc: bool, alignment: bool) -> Verdict
+    requires { ⌜ (length (now words) ≡ 32) × (18 ≤ length (now frame)) ⌝ }
+    ensures { λ v. ⌜ arrivalOf v ≡ judge (registersIn (now (words .entry))) (length (freeBelow 24 (map pagesOf (now (sets .entry))))) (frameOf (now (frame .entry)) badcrc alignment) ⌝ }
 {
-    if !bits::is_set(r.rcr, 8) {
+    if !bits::is_set(words[RCR], flags::RXEN) {
         return Verdict::Disabled;
     }
-    let station = r.station;
-    let table = r.table;
-    if !is_accepted(&frame[0..6], r.rcr, station, table) {
+    if !is_accepted(&frame[0..6], words) {
         return Verdict::NotAccepted;
     }
     let len = frame.len();
-    if 1532 < len {
+    if LONGEST_STORED < len {
         return Verdict::TooLong;
     }
-    if is_dropped(r.control, frame, badcrc, alignment) {
+    if is_dropped(words[CONTROL], frame, badcrc, alignment) {
         return Verdict::Bad;
     }
-    let need = pages_for(data_length(r.rcr, len));
-    if is_full(store::free_count(map), need, r.reserved) {
+    if is_full(words, sets, len) {
         return Verdict::NoRoom;
     }
     Verdict::Stored

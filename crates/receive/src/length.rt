@@ -2,18 +2,27 @@
 use crate::address::group_bits;
 use crate::address::is_broadcast;
 use bits::flag_of;
+use state::PAGE_BYTES;
+use state::flags;
 ghost use mathlib.Core.Path.{_≡_};
 ghost use Prim.Native.Nat.{_≤_};
 ghost use lib.ListN.{length};
 ghost use Rattle.rules.specs.Receive.{dataLength, countOf, pagesFor, frameStatus};
 ghost use Rattle.receive.specs.Arrivals.{frameOf, withRcr};
 
-// n is the length, less 4 when RCR bit 9 is set.
+// The sizes of a frame, with its FCS, by the standard; and the longest that the chip stores.
+pub const SHORTEST: usize = 64;
+
+const LONGEST: usize = 1518;
+
+pub const LONGEST_STORED: usize = 1532;
+
+// n is the length, less 4 with STRIP_CRC.
 pub fn data_length(rcr: u16, len: usize) -> usize
     requires { ⌜ 18 ≤ len ⌝ }
     ensures { λ n. ⌜ n ≡ dataLength (withRcr rcr) len ⌝ }
 {
-    if bits::is_set(rcr, 9) {
+    if bits::is_set(rcr, flags::STRIP_CRC) {
         return len - 4;
     }
     len
@@ -30,11 +39,11 @@ pub fn count_of(n: usize) -> u16
     n as u16 + 6
 }
 
-pub fn pages_for(n: usize) -> usize
+pub fn pages_for(n: usize) -> u32
     requires { ⌜ n ≤ 1532 ⌝ }
     ensures { λ k. ⌜ k ≡ pagesFor (countOf n) ⌝ }
 {
-    (count_of(n) as usize + 255) / 256
+    (count_of(n) as u32 + 255) / PAGE_BYTES
 }
 
 // 15 alignment, 14 broadcast, 13 bad CRC, 12 odd n, 11 frame with FCS over 1,518 bytes, 10 under 64; and what there is to say of a group address.
@@ -46,8 +55,14 @@ pub fn status_of(frame: &[u8], n: usize, badcrc: bool, alignment: bool) -> u16
     let group = group_bits(&frame[0..6]);
     let broadcast = flag_of(is_broadcast(&frame[0..6]));
     let odd = flag_of(bits::is_odd(n));
-    let long = flag_of(1518 < len);
-    let short = flag_of(len < 64);
-    let flags = 0x8000 * flag_of(alignment) + 0x4000 * broadcast + 0x2000 * flag_of(badcrc);
-    flags + 0x1000 * odd + 0x0800 * long + 0x0400 * short + group
+    let long = flag_of(LONGEST < len);
+    let short = flag_of(len < SHORTEST);
+    let upper = (1 << flags::ALGNERR) * flag_of(alignment)
+        + (1 << flags::BROADCAST) * broadcast
+        + (1 << flags::BADCRC) * flag_of(badcrc);
+    upper
+        + (1 << flags::ODDFRM) * odd
+        + (1 << flags::TOOLNG) * long
+        + (1 << flags::TOOSHORT) * short
+        + group
 }

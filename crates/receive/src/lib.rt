@@ -5,17 +5,18 @@ mod judge; // judge.rt: the verdict
 mod stow; // stow.rt: a frame that is stored
 
 use state::Answer;
-use state::Registers;
-use state::Stepped;
-use store::Page;
+use state::LATCHES;
+use state::RCR;
+use state::flags;
 ghost use mathlib.Core.Path.{_≡_};
-ghost use mathlib.Core.List.{List};
-ghost use Prim.Native.Nat.{ℕ};
+ghost use mathlib.Core.Bool.{true};
 ghost use lib.ListN.{length};
 ghost use Rattle.rules.specs.Answers.{doneWith};
-ghost use Rattle.rules.specs.Receive.{arrive};
-ghost use Rattle.state.specs.View.{view, Ready, Makes};
-ghost use Rattle.receive.specs.Arrivals.{frameOf, aborting};
+ghost use Rattle.rules.specs.Fields.{setOverrun, inRegisters};
+ghost use Rattle.rules.specs.Receive.{abort, arrive};
+ghost use Rattle.state.specs.View.{view, Kept};
+ghost use Rattle.state.specs.Promise.{Ready, Does, Makes};
+ghost use Rattle.receive.specs.Arrivals.{frameOf};
 
 // What becomes of a frame; the answer's value in the order of document 01 is 0 to 5.
 enum Verdict {
@@ -27,39 +28,47 @@ enum Verdict {
     NoRoom,
 }
 
-// The frame is not stored, and RX_ABORT says so; RX_OVRN becomes `overrun`.
-fn aborted(r: Registers, map: [[Page; 8]; 24], value: u16, overrun: bool) -> Stepped
-    requires { ⌜ Ready r map ⌝ }
-    ensures { λ s. ⌜ ((mem : List ℕ) → Makes (doneWith value (aborting overrun (view r map mem))) mem s) ⌝ }
+// The frame is not stored, and RX_ABORT says so.
+fn aborted(words: &mut [u16], value: u16) -> Answer
+    requires { ⌜ Kept (now words) ⌝ }
+    ensures { λ a. ⌜ Does (λ c. doneWith value (inRegisters abort c)) (now (words .entry)) a (now (words .exit)) ⌝ }
 {
-    let mut next = r;
-    next.rcr = bits::with_set(r.rcr, 0);
-    next.overrun = overrun;
-    state::make_stepped(Answer::Done(value), next, map)
+    words[RCR] = bits::with_set(words[RCR], flags::RX_ABORT);
+    Answer::Done(value)
+}
+
+// And for want of room, RX_OVRN.
+fn overrun(words: &mut [u16], value: u16) -> Answer
+    requires { ⌜ Kept (now words) ⌝ }
+    ensures { λ a. ⌜ Does (λ c. doneWith value (inRegisters (λ r. setOverrun true (abort r)) c)) (now (words .entry)) a (now (words .exit)) ⌝ }
+{
+    words[LATCHES] = bits::with_set(words[LATCHES], flags::RX_OVRN);
+    aborted(words, value)
 }
 
 // A frame arrives at a chip that is well formed: its bytes with FCS, and two flags.
 pub fn arrived(
-    r: Registers,
-    map: [[Page; 8]; 24],
+    words: &mut [u16],
+    sets: &mut [u32],
+    queues: &mut [u8],
     memory: &mut [u8],
     frame: &[u8],
     bad_crc: bool,
     alignment: bool,
-) -> Stepped
-    requires { ⌜ Ready r map × (length (now memory) ≡ 6144) ⌝ }
-    ensures { λ s. ⌜ Makes (arrive (frameOf (now (frame .entry)) «bad_crc» alignment) (view r map (now (memory .entry)))) (now (memory .exit)) s ⌝ }
+) -> Answer
+    requires { ⌜ Ready (now words) (now sets) (now queues) × (length (now memory) ≡ 6144) ⌝ }
+    ensures { λ a. ⌜ Makes (arrive (frameOf (now (frame .entry)) «bad_crc» alignment) (view (now (words .entry)) (now (sets .entry)) (now (queues .entry)) (now (memory .entry)))) a (now (words .exit)) (now (sets .exit)) (now (queues .exit)) (now (memory .exit)) ⌝ }
 {
     if frame.len() < 18 {
-        return state::make_stepped(Answer::OutsideLimits, r, map);
+        return Answer::OutsideLimits;
     }
-    let verdict = judge::judged(r, map, frame, bad_crc, alignment);
+    let verdict = judge::judged(words, sets, frame, bad_crc, alignment);
     match verdict {
-        Verdict::Stored => stow::stowed(r, map, memory, frame, bad_crc, alignment),
-        Verdict::Disabled => state::make_stepped(Answer::Done(1), r, map),
-        Verdict::NotAccepted => state::make_stepped(Answer::Done(2), r, map),
-        Verdict::TooLong => aborted(r, map, 3, r.overrun),
-        Verdict::Bad => state::make_stepped(Answer::Done(4), r, map),
-        Verdict::NoRoom => aborted(r, map, 5, true),
+        Verdict::Stored => stow::stowed(words, sets, queues, memory, frame, bad_crc, alignment),
+        Verdict::Disabled => Answer::Done(1),
+        Verdict::NotAccepted => Answer::Done(2),
+        Verdict::TooLong => aborted(words, 3),
+        Verdict::Bad => Answer::Done(4),
+        Verdict::NoRoom => overrun(words, 5),
     }
 }

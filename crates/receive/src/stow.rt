@@ -3,42 +3,35 @@ use crate::length::count_of;
 use crate::length::data_length;
 use crate::length::pages_for;
 use crate::length::status_of;
+use sets::Packet;
 use state::Answer;
-use state::Registers;
-use state::Stepped;
-use store::Packet;
-use store::Page;
+use state::RCR;
 ghost use mathlib.Core.Path.{_≡_};
-ghost use Prim.Native.Nat.{_≤_};
 ghost use lib.ListN.{length};
-ghost use Rattle.rules.specs.Lists.{freeBelow};
 ghost use Rattle.rules.specs.Answers.{doneWith};
-ghost use Rattle.rules.specs.Receive.{stored, judge, stow};
-ghost use Rattle.store.specs.Views.{pagesOf};
-ghost use Rattle.state.specs.View.{view, registersOf, Ready, Makes};
-ghost use Rattle.receive.specs.Arrivals.{frameOf};
+ghost use Rattle.rules.specs.Receive.{stow};
+ghost use Rattle.state.specs.View.{view};
+ghost use Rattle.state.specs.Promise.{Makes};
+ghost use Rattle.receive.specs.Arrivals.{frameOf, Stowable};
 
 // It takes the lowest unallocated number and the lowest free pages; the number goes to the end of RX.
 pub fn stowed(
-    r: Registers,
-    map: [[Page; 8]; 24],
+    words: &mut [u16],
+    sets: &mut [u32],
+    queues: &mut [u8],
     memory: &mut [u8],
     frame: &[u8],
     badcrc: bool,
     alignment: bool,
-) -> Stepped
-    requires { ⌜ Ready r map × (length (now memory) ≡ 6144) × (18 ≤ length (now frame)) × (judge (registersOf r) (length (freeBelow 24 (pagesOf map))) (frameOf (now frame) badcrc alignment) ≡ stored) ⌝ }
-    ensures { λ s. ⌜ Makes (doneWith 0 (stow (frameOf (now (frame .entry)) badcrc alignment) (view r map (now (memory .entry))))) (now (memory .exit)) s ⌝ }
+) -> Answer
+    requires { ⌜ Stowable (now words) (now sets) (now queues) (frameOf (now frame) badcrc alignment) × (length (now memory) ≡ 6144) ⌝ }
+    ensures { λ a. ⌜ Makes (doneWith 0 (stow (frameOf (now (frame .entry)) badcrc alignment) (view (now (words .entry)) (now (sets .entry)) (now (queues .entry)) (now (memory .entry))))) a (now (words .exit)) (now (sets .exit)) (now (queues .exit)) (now (memory .exit)) ⌝ }
 {
-    let n = data_length(r.rcr, frame.len());
-    let number = Packet(store::lowest_unallocated(map) as u8);
-    let pages = store::granted(map, number, pages_for(n));
-    let row = store::row_of(pages, number);
+    let n = data_length(words[RCR], frame.len());
+    let number = Packet(sets::lowest_unallocated(sets) as u8);
+    let pages = sets::granted(sets, number, pages_for(n));
     let status = status_of(frame, n, badcrc, alignment);
-    packet::store_frame(memory, row, status, count_of(n), frame, n);
-    let mut next = r;
-    let rx = r.rx;
-    let more = store::push(rx, number);
-    next.rx = more;
-    state::make_stepped(Answer::Done(0), next, pages)
+    packet::store_frame(memory, pages, status, count_of(n), frame, n);
+    pool::join_rx(words, queues, number);
+    Answer::Done(0)
 }

@@ -1,14 +1,13 @@
 // What a record asks for.
+use state::Width;
 ghost use mathlib.Core.Path.{_≡_};
 ghost use Rattle.rules.specs.Bench.{eventOf};
 ghost use Rattle.records.specs.Event.{meant};
 
-// Offset and value of an access, the count of wire bytes, the flags bad CRC and alignment, and a send's outcome, collisions and deferral.
+// Width, offset and value of an access, the count of wire bytes, the flags bad CRC and alignment, and a send's outcome, collisions and deferral.
 pub enum Event {
-    ReadByte(u8),
-    ReadWord(u8),
-    WriteByte(u8, u16),
-    WriteWord(u8, u16),
+    Read(Width, u8),
+    Write(Width, u8, u16),
     Wire(u8),
     Ends(bool, bool),
     Send(u8, u8, u8),
@@ -20,10 +19,10 @@ pub fn event_of(bytes: [u8; 8]) -> Event
 {
     let kind = bytes[0];
     match kind {
-        1 => Event::ReadByte(bytes[1]),
-        2 => Event::ReadWord(bytes[1]),
-        3 => Event::WriteByte(bytes[1], bits::word(bytes[2], bytes[3])),
-        4 => Event::WriteWord(bytes[1], bits::word(bytes[2], bytes[3])),
+        1 => Event::Read(Width::Byte, bytes[1]),
+        2 => Event::Read(Width::Word, bytes[1]),
+        3 => Event::Write(Width::Byte, bytes[1], bits::word(bytes[2], bytes[3])),
+        4 => Event::Write(Width::Word, bytes[1], bits::word(bytes[2], bytes[3])),
         5 => Event::Wire(bytes[1]),
         6 => Event::Ends(
             bits::byte_is_set(bytes[1], 0),

@@ -1,5 +1,7 @@
 -- Proofs that belong to no one function.
 pub mod Queues
-pub mod Returned
-pub mod Stretch
-pub mod Tcr
+pub mod Flags
+pub mod Share
+pub mod Latches
+pub mod Acknowledge
+pub mod Reset

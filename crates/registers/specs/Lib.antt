@@ -1,3 +1,4 @@
--- What the enums of this crate mean, and what its functions promise.
-pub mod Meaning
+-- What the steps of this crate promise beside what the lent state has words for, its words as the rules' reads, and power-up.
 pub mod Promises
+pub mod Reading
+pub mod Power

@@ -1,36 +1,39 @@
--- What reads, writes and resets promise.
+-- What an acknowledge and a reset promise.
 use mathlib.Core.Path.{_≡_}
-use mathlib.Core.List.{List, []}
+use mathlib.Core.Bool.{not, _&&_}
+use mathlib.Core.List.{List, [], _∷_, _++_}
 use Prim.Native.Nat.{ℕ}
-use lib.ListN.{replicate}
-use Rattle.rules.specs.Chip as chip
-use Rattle.rules.specs.Chip.{powerUp}
-use Rattle.rules.specs.Registers.{Register, readRegister, writeRegister}
-use Rattle.store.specs.declared.Page.{Page}
-use Rattle.store.specs.Views.{entries, pagesOf, SoundMap}
-use Rattle.state.specs.declared.Registers.{Registers}
-use Rattle.state.specs.declared.Touched.{Touched}
-use Rattle.state.specs.View.{registersOf, view, SoundQueues, Ready, Touches}
-use Rattle.registers.specs.declared.Part.{Part}
-use Rattle.registers.specs.Meaning.{partOf}
+use lib.ListN.{take, drop, replicate}
+use Rattle.rules.specs.Bits.{bit, lowByte}
+use Rattle.rules.specs.Chip.{resetRegisters}
+use Rattle.rules.specs.Interrupts.{acknowledge}
+use Rattle.rules.specs.Registers.{softReset}
+use Rattle.state.specs.View.{registersIn, counts, view, Latches, Kept}
+use Rattle.state.specs.Promise.{QueuesIn, Sound}
 
--- a read is the rules' step on the chip that registers and map stand for, whatever the memory holds
-abbrev pub Reads : Register → Part → Registers → List (List Page) → Touched → Type 0
-Reads k p r m t = (mem : List ℕ) → Touches (readRegister k (partOf p) (view r m mem)) m mem t
+-- the latches x after an acknowledge by the low byte of v
+pub record Acknowledged (v x y : ℕ) : Type 0 where
+  pub txEmpty : bit 2 y ≡ bit 2 x && not (bit 2 (lowByte v))
+  pub overrun : bit 4 y ≡ bit 4 x && not (bit 4 (lowByte v))
+  pub latched : Latches y
 
--- and so is a write, whatever the map is
-abbrev pub Writes : Register → Part → ℕ → Registers → Touched → Type 0
-Writes k p v r t = (m : List (List Page)) (mem : List ℕ) → Touches (writeRegister k (partOf p) v (view r m mem)) m mem t
+-- the same of the chip, whatever the page sets
+pub record Acknowledges (v : ℕ) (w q w′ q′ : List ℕ) : Type 0 where
+  pub chip : (s mem : List ℕ) → view w′ s q′ mem ≡ acknowledge (lowByte v) (view w s q mem)
+  pub kept : Kept w′
+  pub queues : QueuesIn (counts w′) q′
 
--- registers with empty queues
-pub record Reset (x : chip.Registers) (r : Registers) : Type 0 where
-  pub registers : registersOf r ≡ x
-  pub rx : entries (r .rx) ≡ []
-  pub tx : entries (r .tx) ≡ []
-  pub done : entries (r .done) ≡ []
-  pub queues : SoundQueues (r .rx) (r .tx) (r .done)
+-- 0 in the place of every word but the three of the station address
+abbrev pub zeroBut : List ℕ → List ℕ
+zeroBut w = replicate 10 0 ++ (take 3 (drop 10 w) ++ replicate 19 0)
 
--- with a page map that is cleared and a memory of 6,144 zero bytes, the chip at power-up
-pub record Powered (r : Registers) : Type 0 where
-  pub chip : (m : List (List Page)) → pagesOf m ≡ replicate 24 [] → view r m (replicate 6144 0) ≡ powerUp
-  pub ready : (m : List (List Page)) → pagesOf m ≡ replicate 24 [] → SoundMap m → Ready r m
+-- the words after a reset that keeps the station address
+pub record Resets (w w′ : List ℕ) : Type 0 where
+  pub regs : registersIn w′ ≡ resetRegisters (registersIn w .receiving .station)
+  pub none : counts w′ ≡ 0 ∷ 0 ∷ 0 ∷ []
+  pub kept : Kept w′
+
+-- the state after a soft reset
+pub record SoftResets (w s q w′ s′ q′ : List ℕ) : Type 0 where
+  pub chip : (mem : List ℕ) → view w′ s′ q′ mem ≡ softReset (view w s q mem)
+  pub sound : Sound w′ s′ q′

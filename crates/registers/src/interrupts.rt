@@ -1,126 +1,133 @@
 // Interrupt status, EPH, acknowledge, and the line.
-use state::Registers;
-use store::Page;
-use store::Queue;
+use crate::words::high_only;
+use crate::words::latches_after;
+use state::Answer;
+use state::COMPLETION_COUNT;
+use state::CONTROL;
+use state::EPHSR;
+use state::INTERRUPT;
+use state::LATCHES;
+use state::PACKET;
+use state::RX_COUNT;
+use state::Width;
+use state::flags;
 ghost use mathlib.Core.Path.{_≡_};
-ghost use mathlib.Core.Bool.{_&&_, _||_, cond, not};
+ghost use mathlib.Core.Bool.{_&&_, _||_};
 ghost use mathlib.Core.List.{List};
 ghost use Prim.Native.Nat.{ℕ, _+_, _*_, _<_};
-ghost use lib.ListN.{drop};
-ghost use Rattle.rules.specs.Bits.{bit, flag};
-ghost use Rattle.rules.specs.Lists.{some?};
+ghost use lib.ListN.{length};
+ghost use Rattle.rules.specs.Bits.{bit, flag, wordOf};
 ghost use Rattle.rules.specs.Interrupts as rules;
-ghost use Rattle.rules.specs.Registers.{headOf};
-ghost use Rattle.store.specs.Views.{entries, SoundQueue};
-ghost use Rattle.state.specs.View.{view, SoundQueues};
-
-// Has the queue an entry?
-pub fn some(q: Queue) -> bool
-    requires { ⌜ SoundQueue q ⌝ }
-    ensures { λ b. ⌜ b ≡ some? (entries q) ⌝ }
-{
-    q.count != 0
-}
-
-// The head of a queue, 80h when empty.
-pub fn head_shown(q: Queue) -> u8
-    requires { ⌜ SoundQueue q ⌝ }
-    ensures { λ k. ⌜ k ≡ headOf (entries q) ⌝ }
-{
-    if q.count == 0 {
-        return 0x80;
-    }
-    let k = store::head(q);
-    k.0
-}
+ghost use Rattle.rules.specs.Registers.{INTERRUPT, lanesAt, writeRegister};
+ghost use Rattle.state.specs.Meaning.{widthOf, Placed};
+ghost use Rattle.state.specs.View.{registersIn, counts, view, Kept};
+ghost use Rattle.state.specs.Promise.{QueuesIn, Makes};
+ghost use Rattle.registers.specs.Promises.{Acknowledges};
 
 // Has a send failed, by EPHSR?
-pub fn failed(ephsr: u16) -> bool
+fn failed(ephsr: u16) -> bool
     ensures { λ b. ⌜ b ≡ rules.failed ephsr ⌝ }
 {
-    let a = bits::either(bits::is_set(ephsr, 15), bits::is_set(ephsr, 10));
-    let b = bits::either(a, bits::is_set(ephsr, 9));
-    let c = bits::either(b, bits::is_set(ephsr, 5));
-    let d = bits::either(c, bits::is_set(ephsr, 4));
-    bits::both(d, !bits::is_set(ephsr, 0))
+    let a = bits::either(
+        bits::is_set(ephsr, flags::TXUNRN),
+        bits::is_set(ephsr, flags::LOST_CARR),
+    );
+    let b = bits::either(a, bits::is_set(ephsr, flags::LATCOL));
+    let c = bits::either(b, bits::is_set(ephsr, flags::SQET));
+    let d = bits::either(c, bits::is_set(ephsr, flags::COL16));
+    bits::both(d, !bits::is_set(ephsr, flags::TX_SUC))
 }
 
 // EPH: a counter is full, or a send has failed.
-pub fn eph(ephsr: u16, control: u16) -> bool
+fn eph(ephsr: u16, control: u16) -> bool
     ensures { λ b. ⌜ b ≡ (bit 12 ephsr && bit 6 control) || (rules.failed ephsr && bit 5 control) ⌝ }
 {
-    let full = bits::both(bits::is_set(ephsr, 12), bits::is_set(control, 6));
-    let fail = bits::both(failed(ephsr), bits::is_set(control, 5));
+    let full = bits::both(
+        bits::is_set(ephsr, flags::CTR_ROL),
+        bits::is_set(control, flags::CR_ENABLE),
+    );
+    let fail = bits::both(failed(ephsr), bits::is_set(control, flags::TE_ENABLE));
     bits::either(full, fail)
 }
 
-// The status byte of its six bits.
-fn status_byte(rx: bool, done: bool, txempty: bool, granted: bool, overrun: bool, eph: bool) -> u8
-    ensures { λ s. ⌜ s ≡ flag rx + 2 * flag done + 4 * flag txempty + 8 * flag granted + 16 * flag overrun + 32 * flag eph ⌝ }
+// The bits of interrupt status; the latches stand at theirs.
+fn gathered(rx: bool, completion: bool, latches: u16, granted: bool, eph: bool) -> u16
+    requires { ⌜ latches < 21 ⌝ }
+    ensures sum { λ r. ⌜ r ≡ flag rx + 2 * flag completion + latches + 8 * flag granted + 32 * flag eph ⌝ }
+    ensures small { λ r. ⌜ r < 64 ⌝ }
 {
-    let low = bits::flag_of(rx) + 2 * bits::flag_of(done) + 4 * bits::flag_of(txempty);
-    let high = 8 * bits::flag_of(granted) + 16 * bits::flag_of(overrun) + 32 * bits::flag_of(eph);
-    (low + high) as u8
+    let low = (1 << flags::RCV_INT) * bits::flag_of(rx)
+        + (1 << flags::TX_INT) * bits::flag_of(completion);
+    low
+        + latches
+        + (1 << flags::ALLOC_INT) * bits::flag_of(granted)
+        + (1 << flags::EPH_INT) * bits::flag_of(eph)
 }
 
-// Interrupt status, which looks at no page.
-pub fn status(r: Registers) -> u8
-    requires { ⌜ SoundQueues (r .rx) (r .tx) (r .done) ⌝ }
-    ensures { λ s. ⌜ ((m : List (List Page)) (mem : List ℕ) → s ≡ rules.status (view r m mem)) ⌝ }
+// Interrupt status.
+pub fn status(words: &[u16]) -> u16
+    requires { ⌜ Kept (now words) ⌝ }
+    ensures shown { λ r. ⌜ ((s q mem : List ℕ) → QueuesIn (counts (now (words .entry))) q → r ≡ rules.status (view (now (words .entry)) s q mem)) ⌝ }
+    ensures small { λ r. ⌜ r < 64 ⌝ }
 {
-    let rx = r.rx;
-    let done = r.done;
-    let granted = !bits::byte_is_set(r.result, 7);
-    status_byte(
-        some(rx),
-        some(done),
-        r.txempty,
+    let granted = !bits::is_set(words[PACKET], flags::ALLOCATION_FAILED);
+    let eph = eph(words[EPHSR], words[CONTROL]);
+    gathered(
+        words[RX_COUNT] != 0,
+        words[COMPLETION_COUNT] != 0,
+        words[LATCHES],
         granted,
-        r.overrun,
-        eph(r.ephsr, r.control),
+        eph,
     )
 }
 
 // Is the interrupt line up?
-pub fn line_up(r: Registers) -> bool
-    requires { ⌜ SoundQueues (r .rx) (r .tx) (r .done) ⌝ }
-    ensures { λ b. ⌜ ((m : List (List Page)) (mem : List ℕ) → b ≡ rules.lineUp (view r m mem)) ⌝ }
+pub fn line_up(words: &[u16]) -> bool
+    requires { ⌜ Kept (now words) ⌝ }
+    ensures { λ b. ⌜ ((s q mem : List ℕ) → QueuesIn (counts (now (words .entry))) q → b ≡ rules.lineUp (view (now (words .entry)) s q mem)) ⌝ }
 {
-    bits::shares(status(r), r.mask)
+    status(words) & (words[INTERRUPT] / 256) != 0
 }
 
-// A latch after an acknowledge by v, whose bit k clears it.
-fn kept(latch: bool, v: u8, k: u8) -> bool
-    requires { ⌜ k < 8 ⌝ }
-    ensures { λ b. ⌜ b ≡ latch && not (bit k v) ⌝ }
+// Interrupt status, and the mask above it.
+pub fn interrupt(words: &[u16]) -> u16
+    requires { ⌜ Kept (now words) ⌝ }
+    ensures { λ r. ⌜ ((s q mem : List ℕ) → QueuesIn (counts (now (words .entry))) q → r ≡ wordOf (rules.status (view (now (words .entry)) s q mem)) (registersIn (now (words .entry)) .mask)) ⌝ }
 {
-    bits::both(latch, !bits::byte_is_set(v, k))
+    status(words) + words[INTERRUPT]
 }
 
-// Completion after an acknowledge by v, whose bit 1 removes its head.
-fn completion_left(done: Queue, v: u8) -> Queue
-    requires { ⌜ SoundQueue done ⌝ }
-    ensures { λ q. ⌜ (entries q ≡ cond (bit 1 v) (drop 1 (entries done)) (entries done)) × SoundQueue q ⌝ }
+// A write of the low byte of v to interrupt status: bit 1 removes the head of completion, 2 and 4 clear their latch.
+fn acknowledge(words: &mut [u16], queues: &mut [u8], v: u16)
+    requires { ⌜ Kept (now words) × QueuesIn (counts (now words)) (now queues) ⌝ }
+    ensures { λ _. ⌜ Acknowledges v (now (words .entry)) (now (queues .entry)) (now (words .exit)) (now (queues .exit)) ⌝ }
 {
-    if !bits::byte_is_set(v, 1) {
-        return done;
+    words[LATCHES] = latches_after(words[LATCHES], v);
+    if !bits::is_set(v, flags::TX_INT) {
+        return;
     }
-    if done.count == 0 {
-        return done;
+    if words[COMPLETION_COUNT] == 0 {
+        return;
     }
-    store::pop(done)
+    pool::leave_completion(words, queues);
 }
 
-// A write of v to interrupt status.
-pub fn acknowledged(r: Registers, v: u8) -> Registers
-    requires { ⌜ SoundQueues (r .rx) (r .tx) (r .done) ⌝ }
-    ensures { λ x. ⌜ ((m : List (List Page)) (mem : List ℕ) → view x m mem ≡ rules.acknowledge v (view r m mem)) × SoundQueues (x .rx) (x .tx) (x .done) ⌝ }
+// Interrupt status is acknowledged, the mask stored.
+pub fn write_interrupt(
+    words: &mut [u16],
+    queues: &mut [u8],
+    width: Width,
+    offset: u8,
+    value: u16,
+) -> Answer
+    requires { ⌜ Kept (now words) × QueuesIn (counts (now words)) (now queues) × Placed width offset ⌝ }
+    ensures done { λ a. ⌜ ((s mem : List ℕ) → length s ≡ 24 → Makes (writeRegister INTERRUPT (lanesAt (widthOf width) offset) value (view (now (words .entry)) s (now (queues .entry)) mem)) a (now (words .exit)) s (now (queues .exit)) mem) ⌝ }
+    ensures long { λ a. ⌜ (length (now (words .exit)) ≡ 32) × (length (now (queues .exit)) ≡ 72) ⌝ }
 {
-    let mut next = r;
-    let done = r.done;
-    let left = completion_left(done, v);
-    next.done = left;
-    next.txempty = kept(r.txempty, v, 2);
-    next.overrun = kept(r.overrun, v, 4);
-    next
+    words[INTERRUPT] = high_only(state::merged(width, offset, value, words[INTERRUPT]));
+    if state::is_high(width, offset) {
+        return Answer::Done(0);
+    }
+    acknowledge(words, queues, value);
+    Answer::Done(0)
 }

@@ -1,111 +1,71 @@
-// What a read of a register gives.
-use crate::Part;
-use crate::Place;
-use crate::interrupts::head_shown;
-use crate::interrupts::status;
-use crate::words::station_word;
-use crate::words::table_word;
-use crate::words::taken;
+// Reads that are not a word as it stands.
 use state::Answer;
-use state::Registers;
-use state::Touched;
-use store::Page;
-use store::Queue;
+use state::COMPLETION_COUNT;
+use state::ECR;
+use state::EPHSR;
+use state::NO_PACKET;
+use state::PAGES;
+use state::RX_COUNT;
+use state::flags;
 ghost use mathlib.Core.Path.{_≡_};
-ghost use mathlib.Core.List.{List};
+ghost use mathlib.Core.List.{List, map};
+ghost use Prim.Native.Nat.{ℕ};
 ghost use lib.ListN.{length};
 ghost use Rattle.rules.specs.Bits.{wordOf};
 ghost use Rattle.rules.specs.Lists.{freeBelow};
-ghost use Rattle.rules.specs.WellFormed.{GoodPages};
-ghost use Rattle.rules.specs.Interrupts.{shownEphsr};
 ghost use Rattle.rules.specs.Registers as rules;
-ghost use Rattle.store.specs.Views.{entries, pagesOf, SoundQueue};
-ghost use Rattle.state.specs.View.{registersOf, SoundQueues, Ready};
-ghost use Rattle.registers.specs.Meaning.{partOf, placeOf, InRange};
-ghost use Rattle.registers.specs.Promises.{Reads};
+ghost use Rattle.sets.specs.Views.{pagesOf};
+ghost use Rattle.state.specs.View.{word, counts, queueIn, Kept};
+ghost use Rattle.state.specs.Promise.{QueuesIn, Does};
 
-// Done, with the part of the word that the access reaches.
-fn gives(part: Part, word: u16, r: Registers) -> Touched
-    ensures { λ t. ⌜ t ≡ record { answer = Answer.Done (rules.taken (partOf part) word); registers = r } ⌝ }
+// MIR: how many pages there are, and how many are free.
+pub fn mir(sets: &[u32]) -> u16
+    requires { ⌜ length (now sets) ≡ 24 ⌝ }
+    ensures { λ r. ⌜ r ≡ wordOf 24 (length (freeBelow 24 (map pagesOf (now (sets .entry))))) ⌝ }
 {
-    let answer = Answer::Done(taken(part, word));
-    Touched {
-        answer,
-        registers: r,
-    }
+    bits::word(PAGES, sets::free_count(sets) as u8)
 }
 
-// MIR: the number of pages, and of free pages.
-fn memory_information(map: [[Page; 8]; 24]) -> u16
-    requires { ⌜ GoodPages 24 (pagesOf map) ⌝ }
-    ensures { λ w. ⌜ w ≡ wordOf 24 (length (freeBelow 24 (pagesOf map))) ⌝ }
+// The head of completion, 80h when empty.
+fn completion_shown(words: &[u16], queues: &[u8]) -> u8
+    requires { ⌜ Kept (now words) × QueuesIn (counts (now words)) (now queues) ⌝ }
+    ensures { λ r. ⌜ r ≡ rules.headOf (queueIn 2 (word (now (words .entry)) 9) (now (queues .entry))) ⌝ }
 {
-    bits::word(24, store::free_count(map) as u8)
+    if words[COMPLETION_COUNT] == 0 {
+        return NO_PACKET;
+    }
+    let packet = pool::completion_head(queues);
+    packet.0
+}
+
+// The head of RX, 80h when empty.
+fn rx_shown(words: &[u16], queues: &[u8]) -> u8
+    requires { ⌜ Kept (now words) × QueuesIn (counts (now words)) (now queues) ⌝ }
+    ensures { λ r. ⌜ r ≡ rules.headOf (queueIn 0 (word (now (words .entry)) 6) (now (queues .entry))) ⌝ }
+{
+    if words[RX_COUNT] == 0 {
+        return NO_PACKET;
+    }
+    let packet = pool::rx_head(queues);
+    packet.0
 }
 
 // The heads of completion and of RX.
-fn heads(done: Queue, rx: Queue) -> u16
-    requires { ⌜ SoundQueue done × SoundQueue rx ⌝ }
-    ensures { λ w. ⌜ w ≡ wordOf (rules.headOf (entries done)) (rules.headOf (entries rx)) ⌝ }
+pub fn heads(words: &[u16], queues: &[u8]) -> u16
+    requires { ⌜ Kept (now words) × QueuesIn (counts (now words)) (now queues) ⌝ }
+    ensures { λ r. ⌜ r ≡ wordOf (rules.headOf (queueIn 2 (word (now (words .entry)) 9) (now (queues .entry)))) (rules.headOf (queueIn 0 (word (now (words .entry)) 6) (now (queues .entry)))) ⌝ }
 {
-    bits::word(head_shown(done), head_shown(rx))
-}
-
-// What is shown of EPHSR.
-fn shown_ephsr(r: Registers) -> u16
-    ensures { λ w. ⌜ w ≡ shownEphsr (registersOf r) ⌝ }
-{
-    r.ephsr
+    bits::word(completion_shown(words, queues), rx_shown(words, queues))
 }
 
 // ECR is cleared, and EPHSR bit 12, after the value is taken.
-fn read_ecr(part: Part, r: Registers) -> Touched
-    requires { ⌜ SoundQueues (r .rx) (r .tx) (r .done) ⌝ }
-    ensures { λ t. ⌜ ((m : List (List Page)) → Reads rules.ECR part r m t) ⌝ }
+pub fn read_ecr(words: &mut [u16]) -> u16
+    requires { ⌜ Kept (now words) ⌝ }
+    ensures done { λ r. ⌜ ((p : rules.Lanes) → Does (rules.readRegister rules.ECR p) (now (words .entry)) (Answer.Done (rules.taken p r)) (now (words .exit))) ⌝ }
+    ensures long { λ r. ⌜ length (now (words .exit)) ≡ 32 ⌝ }
 {
-    let mut next = r;
-    next.ecr = 0;
-    next.ephsr = bits::with_clear(r.ephsr, 12);
-    gives(part, r.ecr, next)
-}
-
-// A read of any register that leaves the page map and the memory. Only MIR looks at the page map.
-pub fn read_plain(place: Place, part: Part, r: Registers, map: [[Page; 8]; 24]) -> Touched
-    requires { ⌜ InRange place × Ready r map ⌝ }
-    ensures { λ t. ⌜ Reads (placeOf place) part r map t ⌝ }
-{
-    match place {
-        Place::Tcr => gives(part, r.tcr, r),
-        Place::Ephsr => gives(part, shown_ephsr(r), r),
-        Place::Ecr => read_ecr(part, r),
-        Place::Mir => gives(part, memory_information(map), r),
-        Place::Reserved => gives(part, bits::word(r.reserved, 0x33), r),
-        Place::Station(k) => {
-            let station = r.station;
-            gives(part, station_word(station, k), r)
-        }
-        Place::Control => gives(part, r.control, r),
-        Place::Packet => gives(part, bits::word(r.packet, r.result), r),
-        Place::Heads => {
-            let done = r.done;
-            let rx = r.rx;
-            gives(part, heads(done, rx), r)
-        }
-        Place::Pointer => gives(part, r.pointer, r),
-        Place::Interrupt => gives(part, bits::word(status(r), r.mask), r),
-        Place::Table(k) => {
-            let table = r.table;
-            gives(part, table_word(table, k), r)
-        }
-        Place::Bank => gives(part, bits::word(r.bank, 0x33), r),
-        Place::Unused => gives(part, 0x3333, r),
-    }
-}
-
-// RCR is plain to read.
-pub fn read_rcr(part: Part, r: Registers) -> Touched
-    requires { ⌜ SoundQueues (r .rx) (r .tx) (r .done) ⌝ }
-    ensures { λ t. ⌜ ((m : List (List Page)) → Reads rules.RCR part r m t) ⌝ }
-{
-    gives(part, r.rcr, r)
+    let ecr = words[ECR];
+    words[ECR] = 0;
+    words[EPHSR] = bits::with_clear(words[EPHSR], flags::CTR_ROL);
+    ecr
 }

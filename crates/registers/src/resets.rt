@@ -1,89 +1,87 @@
-// Power-up, and the soft reset by RCR.
-use crate::Part;
-use crate::words::merged;
+// Reset values, and the soft reset by RCR.
+use crate::words::HIGH_33;
+use crate::words::new_rcr;
 use state::Answer;
-use state::Registers;
-use state::Stepped;
-use state::make_stepped;
-use store::Page;
+use state::BANK;
+use state::LATCHES;
+use state::PACKET;
+use state::RCR;
+use state::RESERVED;
+use state::STATION;
+use state::Width;
+use state::flags;
 ghost use mathlib.Core.Path.{_≡_};
 ghost use mathlib.Core.List.{List};
 ghost use Prim.Native.Nat.{ℕ};
-ghost use Rattle.rules.specs.Chip.{resetRegisters};
-ghost use Rattle.rules.specs.Answers.{did};
+ghost use lib.ListN.{length, replicate};
 ghost use Rattle.rules.specs.Registers as rules;
-ghost use Rattle.state.specs.View.{view, Ready, Makes};
-ghost use Rattle.registers.specs.Meaning.{partOf};
-ghost use Rattle.registers.specs.Promises.{Powered, Reset};
+ghost use Rattle.state.specs.Meaning.{widthOf};
+ghost use Rattle.state.specs.View.{view};
+ghost use Rattle.state.specs.Promise.{Sound, Makes};
+ghost use Rattle.registers.specs.Promises.{zeroBut, Resets, SoftResets};
 
-// Reset values, with a station address.
-pub fn reset_registers(station: [u8; 6]) -> Registers
-    ensures { λ r. ⌜ Reset (resetRegisters station) r ⌝ }
+// Every word is 0.
+fn zeroed(words: &mut [u16])
+    ensures { λ _. ⌜ now (words .exit) ≡ replicate (length (now (words .entry))) 0 ⌝ }
 {
-    let none = store::empty_queue();
-    let table = [0; 8];
-    Registers {
-        tcr: 0,
-        ephsr: 0,
-        rcr: 0,
-        ecr: 0,
-        reserved: 0,
-        station,
-        control: 0,
-        packet: 0,
-        result: 0x80,
-        pointer: 0,
-        mask: 0,
-        table,
-        bank: 0,
-        txempty: true,
-        overrun: false,
-        rx: none,
-        tx: none,
-        done: none,
+    let mut k = 0;
+    while k < words.len() {
+        words[k] = 0;
+        k += 1;
     }
 }
 
-// The registers at power-up.
-pub fn powered() -> Registers
-    ensures { λ r. ⌜ Powered r ⌝ }
+// Every word is 0 but those of the station address.
+fn cleared_words(words: &mut [u16])
+    requires { ⌜ length (now words) ≡ 32 ⌝ }
+    ensures zeros { λ _. ⌜ now (words .exit) ≡ zeroBut (now (words .entry)) ⌝ }
+    ensures long { λ _. ⌜ length (now (words .exit)) ≡ 32 ⌝ }
 {
-    let station = [0; 6];
-    reset_registers(station)
+    zeroed(&mut words[0..STATION]);
+    zeroed(&mut words[STATION + 3..32]);
 }
 
-// RCR after a write: RX_ABORT is never set by it.
-fn new_rcr(part: Part, value: u16, x: u16) -> u16
-    ensures { λ y. ⌜ y ≡ rules.newRcr (partOf part) value x ⌝ }
+// The reset values of all words but those of the station address, which stays.
+pub fn reset_words(words: &mut [u16])
+    requires { ⌜ length (now words) ≡ 32 ⌝ }
+    ensures { λ _. ⌜ Resets (now (words .entry)) (now (words .exit)) ⌝ }
 {
-    let y = merged(part, value, x);
-    if bits::is_set(x, 0) {
-        return y;
-    }
-    bits::with_clear(y, 0)
+    cleared_words(words);
+    words[RESERVED] = HIGH_33;
+    words[BANK] = HIGH_33;
+    words[LATCHES] = 1 << flags::TX_EMPTY;
+    words[PACKET] = 1 << flags::ALLOCATION_FAILED;
 }
 
 // All is reset but the station address and the memory.
-fn soft_reset(r: Registers, map: [[Page; 8]; 24]) -> Stepped
-    requires { ⌜ Ready r map ⌝ }
-    ensures { λ s. ⌜ ((mem : List ℕ) → Makes (did (rules.softReset (view r map mem))) mem s) ⌝ }
+fn soft_reset(words: &mut [u16], sets: &mut [u32], queues: &mut [u8])
+    requires { ⌜ Sound (now words) (now sets) (now queues) ⌝ }
+    ensures { λ _. ⌜ SoftResets (now (words .entry)) (now (sets .entry)) (now (queues .entry)) (now (words .exit)) (now (sets .exit)) (now (queues .exit)) ⌝ }
 {
-    let station = r.station;
-    let mut next = reset_registers(station);
-    next.rcr = 0x8000;
-    make_stepped(Answer::Done(0), next, store::cleared())
+    reset_words(words);
+    words[RCR] = 1 << flags::SOFT_RST;
+    sets::cleared(sets);
+    queues::empty(queues);
 }
 
-// A write to RCR. One that leaves bit 15 set resets.
-pub fn write_rcr(r: Registers, map: [[Page; 8]; 24], part: Part, value: u16) -> Stepped
-    requires { ⌜ Ready r map ⌝ }
-    ensures { λ s. ⌜ ((mem : List ℕ) → Makes (rules.writeRegister rules.RCR (partOf part) value (view r map mem)) mem s) ⌝ }
+// RCR. A write that leaves bit 15 set resets.
+pub fn write_rcr(
+    words: &mut [u16],
+    sets: &mut [u32],
+    queues: &mut [u8],
+    width: Width,
+    offset: u8,
+    value: u16,
+) -> Answer
+    requires { ⌜ Sound (now words) (now sets) (now queues) ⌝ }
+    ensures done { λ a. ⌜ ((mem : List ℕ) → Makes (rules.writeRegister rules.RCR (rules.lanesAt (widthOf width) offset) value (view (now (words .entry)) (now (sets .entry)) (now (queues .entry)) mem)) a (now (words .exit)) (now (sets .exit)) (now (queues .exit)) mem) ⌝ }
+    ensures long { λ a. ⌜ (length (now (words .exit)) ≡ 32) × (length (now (sets .exit)) ≡ 24) × (length (now (queues .exit)) ≡ 72) ⌝ }
 {
-    let rcr = new_rcr(part, value, r.rcr);
-    if bits::is_set(rcr, 15) {
-        return soft_reset(r, map);
+    let rcr = new_rcr(width, offset, value, words[RCR]);
+    if bits::is_set(rcr, flags::SOFT_RST) {
+        soft_reset(words, sets, queues);
+        return Answer::Done(0);
     }
-    let mut next = r;
-    next.rcr = rcr;
-    make_stepped(Answer::Done(0), next, map)
+    words[RCR] = rcr;
+    Answer::Done(0)
 }

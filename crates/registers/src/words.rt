@@ -1,86 +1,67 @@
-// The part of a register's word that an access reads or writes, and words in a list of bytes.
-use crate::Part;
+// What a write leaves of a word.
+use state::Width;
+use state::flags;
 ghost use mathlib.Core.Path.{_≡_};
-ghost use Prim.Native.Nat.{_+_, _*_, _<_};
-ghost use lib.ListN.{length};
-ghost use Rattle.rules.specs.Bits.{wordAt};
+ghost use mathlib.Core.Bool.{cond};
+ghost use Prim.Native.Nat.{_+_, _*_, _/_, _<_};
+ghost use Rattle.rules.specs.Bits.{bit};
 ghost use Rattle.rules.specs.Registers as rules;
-ghost use Rattle.registers.specs.Meaning.{partOf};
+ghost use Rattle.state.specs.Meaning.{widthOf};
+ghost use Rattle.state.specs.View.{Latches};
+ghost use Rattle.registers.specs.Promises.{Acknowledged};
 
-// What a read gives of a register's word.
-pub fn taken(part: Part, x: u16) -> u16
-    ensures { λ v. ⌜ v ≡ rules.taken (partOf part) x ⌝ }
+// The high byte of the bank, and of the pages reserved for transmit, always reads 33h.
+pub const HIGH_33: u16 = 0x3300;
+
+// A word with another low byte.
+pub fn low_set(x: u16, low: u16) -> u16
+    requires { ⌜ low < 256 ⌝ }
+    ensures { λ y. ⌜ y ≡ x / 256 * 256 + low ⌝ }
 {
-    match part {
-        Part::Low => bits::low_byte(x) as u16,
-        Part::High => bits::high_byte(x) as u16,
-        Part::Both => x,
+    x / 256 * 256 + low
+}
+
+// A word without its low byte.
+pub fn high_only(x: u16) -> u16
+    ensures { λ y. ⌜ y ≡ x / 256 * 256 ⌝ }
+{
+    x / 256 * 256
+}
+
+// EPHSR without bits 15, 10, 9, 5, 4 and 0.
+fn forgotten(ephsr: u16) -> u16
+    ensures { λ e. ⌜ e ≡ rules.forgotten ephsr ⌝ }
+{
+    let a = bits::with_clear(bits::with_clear(ephsr, flags::TX_SUC), flags::COL16);
+    let b = bits::with_clear(bits::with_clear(a, flags::SQET), flags::LATCOL);
+    bits::with_clear(bits::with_clear(b, flags::LOST_CARR), flags::TXUNRN)
+}
+
+// EPHSR after a write that leaves TCR as it stands here.
+pub fn ephsr_after(tcr: u16, ephsr: u16) -> u16
+    ensures { λ e. ⌜ e ≡ cond (bit 0 tcr) (rules.forgotten ephsr) ephsr ⌝ }
+{
+    if bits::is_set(tcr, flags::TXENA) {
+        return forgotten(ephsr);
     }
+    ephsr
 }
 
-// A register's word x after a write.
-pub fn merged(part: Part, value: u16, x: u16) -> u16
-    ensures { λ y. ⌜ y ≡ rules.merged (partOf part) value x ⌝ }
+// RX_ABORT is cleared by a write, never set.
+pub fn new_rcr(width: Width, offset: u8, value: u16, rcr: u16) -> u16
+    ensures { λ x. ⌜ x ≡ rules.newRcr (rules.lanesAt (widthOf width) offset) value rcr ⌝ }
 {
-    match part {
-        Part::Low => bits::word(bits::low_byte(value), bits::high_byte(x)),
-        Part::High => bits::word(bits::low_byte(x), bits::low_byte(value)),
-        Part::Both => bits::word(bits::low_byte(value), bits::high_byte(value)),
+    let x = state::merged(width, offset, value, rcr);
+    if bits::is_set(rcr, flags::RX_ABORT) {
+        return x;
     }
+    bits::with_clear(x, flags::RX_ABORT)
 }
 
-// The word in bytes i and i + 1.
-pub fn word_at(bytes: &[u8], i: usize) -> u16
-    requires { ⌜ i + 1 < length (now bytes) ⌝ }
-    ensures { λ w. ⌜ w ≡ wordAt i (now (bytes .entry)) ⌝ }
+// The latches after an acknowledge by the low byte of v.
+pub fn latches_after(latches: u16, v: u16) -> u16
+    requires { ⌜ Latches latches ⌝ }
+    ensures { λ x. ⌜ Acknowledged v latches x ⌝ }
 {
-    bits::word(bytes[i], bytes[i + 1])
-}
-
-// A write to bytes i and i + 1.
-pub fn write_at(bytes: &mut [u8], i: usize, part: Part, value: u16)
-    requires { ⌜ i + 1 < length (now bytes) ⌝ }
-    ensures { λ _. ⌜ now (bytes .exit) ≡ rules.mergedAt (partOf part) value i (now (bytes .entry)) ⌝ }
-{
-    match part {
-        Part::Low => bytes[i] = bits::low_byte(value),
-        Part::High => bytes[i + 1] = bits::low_byte(value),
-        Part::Both => {
-            bytes[i] = bits::low_byte(value);
-            bytes[i + 1] = bits::high_byte(value);
-        }
-    }
-}
-
-// Words of the station address and of the multicast table.
-pub fn station_word(station: [u8; 6], k: u8) -> u16
-    requires { ⌜ k < 3 ⌝ }
-    ensures { λ w. ⌜ w ≡ wordAt (2 * k) station ⌝ }
-{
-    word_at(&station, 2 * k as usize)
-}
-
-pub fn table_word(table: [u8; 8], k: u8) -> u16
-    requires { ⌜ k < 4 ⌝ }
-    ensures { λ w. ⌜ w ≡ wordAt (2 * k) table ⌝ }
-{
-    word_at(&table, 2 * k as usize)
-}
-
-pub fn station_written(station: [u8; 6], k: u8, part: Part, value: u16) -> [u8; 6]
-    requires { ⌜ k < 3 ⌝ }
-    ensures { λ s. ⌜ s ≡ rules.mergedAt (partOf part) value (2 * k) station ⌝ }
-{
-    let mut next = station;
-    write_at(&mut next, 2 * k as usize, part, value);
-    next
-}
-
-pub fn table_written(table: [u8; 8], k: u8, part: Part, value: u16) -> [u8; 8]
-    requires { ⌜ k < 4 ⌝ }
-    ensures { λ s. ⌜ s ≡ rules.mergedAt (partOf part) value (2 * k) table ⌝ }
-{
-    let mut next = table;
-    write_at(&mut next, 2 * k as usize, part, value);
-    next
+    latches & (0xffff - v)
 }

@@ -1,52 +1,44 @@
 -- What a well-formed chip gives a send of the TX head.
 use mathlib.Core.Path.{_≡_, ap, sym, _∙_}
 use mathlib.Core.Bool.{true, true≢false}
-use mathlib.Core.List.{List, [], _∷_}
+use mathlib.Core.List.{List, [], _∷_, map}
 use Prim.Native.Nat.{ℕ, _*_, _≤_, _<_}
 use native.Mathlib.Omega.{arith}
 use lib.Dec.{leb}
 use lib.ListN.{length, getD}
 use Rattle.rules.specs.Bits.{bit}
-use Rattle.rules.specs.Lists.{member, some?}
+use Rattle.rules.specs.Lists.{some?}
 use Rattle.rules.specs.Send.{Send, inLimits, usable}
-use Rattle.lists.specs.Facts.{is-true, is-false, le-decides, _and_, member-first}
+use Rattle.lists.specs.Facts.{is-true, is-false, le-decides, _and_, member-at}
 use Rattle.wellformed.specs.Pool.{has-small}
-use Rattle.store.specs.declared.Page.{Page}
-use Rattle.store.specs.Views.{used, pagesOf, entries}
-use Rattle.store.proofs.Facts.{entries-length}
+use Rattle.sets.specs.Views.{pagesOf}
 use Rattle.packet.specs.Room.{Room}
 use Rattle.packet.proofs.Facts.{room-of}
-use Rattle.state.specs.declared.Registers.{Registers}
-use Rattle.state.specs.View.{Ready}
-
-first-member : (l : List ℕ) → 0 < length l → member (getD l 0 0) l ≡ true
-first-member [] h = absurd (omega arith)
-first-member (k ∷ ks) h = member-first k ks
+use Rattle.state.specs.View.{word, queueIn}
+use Rattle.state.specs.Promise.{Ready}
 
 some-length : (l : List ℕ) → some? l ≡ true → 1 ≤ length l
 unfolding some?
 some-length [] e = absurd (true≢false (sym e))
 some-length (x ∷ xs) e = omega arith
 
-module _ (r : Registers) (m : List (List Page)) (w : Ready r m) (h : 0 < r .tx .count) where
+module _ {w s q : List ℕ} (r : Ready w s q) (h : 0 < word w 8) where
   abbrev head : ℕ
-  head = getD (entries (r .tx)) 0 0
+  head = getD (queueIn 1 (word w 8) q) 0 0
 
-  head-allocated : some? (getD (pagesOf m) head []) ≡ true
-  head-allocated = w .well .queues .txAllocated head (first-member (entries (r .tx)) (omega (arith, h, entries-length (r .tx) (w .queues .tx))))
+  head-allocated : some? (getD (map pagesOf s) head []) ≡ true
+  head-allocated = r .well .queues .txAllocated head (member-at (queueIn 1 (word w 8) q) 0 (omega (arith, h, r .sound .queues .tx .many)))
 
   pub head-small : head < 24
-  head-small = omega (arith, has-small (pagesOf m) head head-allocated, w .well .count)
+  head-small = omega (arith, has-small (map pagesOf s) head head-allocated, r .well .count)
 
-  module _ (row : List Page) (p : used row ≡ getD (pagesOf m) head []) where
-    pub row-some : 1 ≤ length (used row)
-    row-some = some-length (used row) (ap some? p ∙ head-allocated)
+  module _ (set : ℕ) (p : pagesOf set ≡ getD (map pagesOf s) head []) where
+    -- the head has 1 to 8 pages
+    pub pages-few : (1 ≤ length (pagesOf set)) × (length (pagesOf set) ≤ 8)
+    pages-few = (some-length (pagesOf set) (ap some? p ∙ head-allocated), omega (arith, ap length p, r .well .pages .atMost head))
 
-    pub row-few : length (used row) ≤ 8
-    row-few = omega (arith, ap length p, w .well .pages .atMost head)
-
-    pub room : (mem : List ℕ) → length mem ≡ 6144 → (end : ℕ) → end ≤ 256 * length (used row) → Room end row mem
-    room mem e end b = room-of end row (getD (pagesOf m) head []) mem p e (w .well .pages .within head) (omega (arith, b, ap length p))
+    pub room : (mem : List ℕ) → length mem ≡ 6144 → (end : ℕ) → end ≤ 256 * length (pagesOf set) → Room end set mem
+    room mem e end b = room-of end set (getD (map pagesOf s) head []) mem p e (r .well .pages .within head) (omega (arith, b, ap length p))
 
 -- What a usable count is.
 pub usable-fits : (count pages : ℕ) → usable count pages ≡ true → (12 ≤ count) × (count ≤ 256 * pages)

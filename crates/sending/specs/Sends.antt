@@ -1,32 +1,74 @@
--- What a send promises: the rules' turn, of what is returned and of the memory and the output left behind.
+-- What a send promises: the rules' turn, of the answer and of the state, memory and output left behind. And what each part of it has done.
 use mathlib.Core.Path.{_≡_}
-use mathlib.Core.Bool.{Bool, not}
+use mathlib.Core.Bool.{Bool, cond, not, _||_}
 use mathlib.Core.List.{List}
-use Prim.Native.Nat.{ℕ}
-use lib.ListN.{length, drop}
+use Prim.Native.Nat.{ℕ, _+_, _*_, _^_}
+use lib.ListN.{length, getD, drop}
+use Rattle.rules.specs.Bits.{bit, clearBit, flag}
 use Rattle.rules.specs.Lists.{some?}
+use Rattle.rules.specs.Chip.{Registers, Chip}
+use Rattle.rules.specs.Fields.{setTx, inSending, inRegisters, inPool}
 use Rattle.rules.specs.Answers.{Turn, over}
-use Rattle.rules.specs.Send as rules
-use Rattle.rules.specs.Send.{addressBits, sentRegisters}
-use Rattle.store.specs.Views.{entries, SoundQueue}
-use Rattle.state.specs.declared.Registers.{Registers}
-use Rattle.state.specs.declared.Stepped.{Stepped}
-use Rattle.state.specs.View.{registersOf, Makes}
+use Rattle.rules.specs.Packet.{getBytes}
+use Rattle.rules.specs.Send.{Send, outcomeBits, anyAt15, tally, newEcr, newEphsr, sentRegisters, retire, statusWritten, ifSendable}
+use Rattle.state.specs.declared.Answer.{Answer}
+use Rattle.state.specs.Meaning.{replyOf}
+use Rattle.state.specs.View.{counts, view, Kept}
+use Rattle.state.specs.Promise.{QueuesIn, Sound}
 
--- the result, with memory and output after it, is what the turn says
-pub record Sends (t : Turn) (memory out : List ℕ) (x : Stepped) : Type 0 where
-  pub step : Makes (record { reply = t .reply; chip = t .chip }) memory x
+-- the answer, with state, memory and output after it, is what the turn says
+pub record Sends (t : Turn) (a : Answer) (w s q mem out : List ℕ) : Type 0 where
+  pub chip : view w s q mem ≡ t .chip
+  pub reply : replyOf a ≡ t .reply
   pub output : out ≡ t .output
+  pub sound : Sound w s q
 
 -- the bytes are put out over the front of a buffer, and their number is returned
 pub record PutsOut (bytes before after : List ℕ) (n : ℕ) : Type 0 where
   pub value : n ≡ length bytes
   pub output : after ≡ over bytes before
 
--- registers x after a send from r: TX has lost its head, and the rest is the rules'; `bits` are those of the address sent to
-pub record Sent (good : Bool) (s : rules.Send) (bits : ℕ) (r x : Registers) : Type 0 where
-  pub registers : (address : List ℕ) → bits ≡ addressBits address → registersOf x ≡ sentRegisters good s address (not (some? (drop 1 (entries (r .tx))))) (registersOf r)
-  pub tx : entries (x .tx) ≡ drop 1 (entries (r .tx))
-  pub sound : SoundQueue (x .tx)
-  pub rx : x .rx ≡ r .rx
-  pub done : x .done ≡ r .done
+-- the rules' `sentRegisters`, by the bits of the address that is sent to
+abbrev pub sentBy : Bool → Send → ℕ → Bool → Registers → Registers
+sentBy isGood s bits emptied r =
+    inSending (λ x. record {
+      tcr = cond isGood (x .tcr) (clearBit 0 (x .tcr));
+      ephsr = outcomeBits isGood s + bits + 2 ^ 12 * flag (bit 12 (x .ephsr) || anyAt15 (tally isGood s (x .ecr)));
+      ecr = newEcr isGood s (x .ecr);
+      txEmpty = x .txEmpty || emptied;
+    }) r
+
+-- The chip after it, but for the packet itself: the registers are the rules', and TX has lost its head.
+abbrev pub headGone : Bool → Send → ℕ → Chip → Chip
+headGone isGood s bits c =
+    let rest = drop 1 (c .pool .tx) in
+    inPool (setTx rest) (inRegisters (sentBy isGood s bits (not (some? rest))) c)
+
+-- words w and queues q become w′ and q′, beside any page sets and memory
+pub record Sent (isGood : Bool) (s : Send) (bits : ℕ) (w q w′ q′ : List ℕ) : Type 0 where
+  pub chip : (sets mem : List ℕ) → view w′ sets q′ mem ≡ headGone isGood s bits (view w sets q mem)
+  pub kept : Kept w′
+  pub queues : QueuesIn (counts w′) q′
+
+-- packet k is released, or joins completion
+pub record Retires (released : Bool) (k : ℕ) (w s q w′ s′ q′ : List ℕ) : Type 0 where
+  pub chip : (mem : List ℕ) → view w′ s′ q′ mem ≡ retire released k (view w s q mem)
+  pub sound : Sound w′ s′ q′
+
+-- The chip after all that a send does to it: the head of TX has the pages.
+abbrev pub completed : Bool → Bool → Send → List ℕ → Chip → Chip
+completed released isGood s pages c =
+    let rest = drop 1 (c .pool .tx) in
+    let address = getBytes 6 4 pages (c .memory) in
+    retire released (getD (c .pool .tx) 0 0)
+    (statusWritten pages (newEphsr isGood s address (c .regs))
+    (inPool (setTx rest) (inRegisters (sentRegisters isGood s address (not (some? rest))) c)))
+
+-- this chip is left in state and memory
+pub record Completes (released isGood : Bool) (s : Send) (pages : List ℕ) (c : Chip) (w′ s′ q′ mem′ : List ℕ) : Type 0 where
+  pub chip : view w′ s′ q′ mem′ ≡ completed released isGood s pages c
+  pub sound : Sound w′ s′ q′
+
+-- the head of TX, where it has one, is sent
+abbrev pub headSent : Send → Chip → List ℕ → Turn
+headSent s c out = ifSendable s (getD (c .pool .tx) 0 0) (drop 1 (c .pool .tx)) c out

@@ -1,42 +1,59 @@
-// The registers after a send.
+// The registers and TX after a send.
 use crate::Send;
 use crate::nibbles::any_full;
 use crate::nibbles::new_ecr;
 use crate::nibbles::tallied;
 use crate::status::new_ephsr;
 use crate::status::new_tcr;
-use state::Registers;
+use state::ECR;
+use state::EPHSR;
+use state::LATCHES;
+use state::TCR;
+use state::TX_COUNT;
+use state::flags;
 ghost use mathlib.Core.Path.{_≡_};
 ghost use mathlib.Core.Bool.{_||_};
 ghost use Prim.Native.Nat.{_≤_, _<_};
 ghost use lib.Dec.{eqb};
-ghost use Rattle.store.specs.Views.{SoundQueue};
+ghost use Rattle.rules.specs.Bits.{bit};
+ghost use Rattle.state.specs.View.{word, counts, Latches, Kept};
+ghost use Rattle.state.specs.Promise.{QueuesIn, Sets};
 ghost use Rattle.sending.specs.Numbers.{sendOf};
-ghost use Rattle.sending.specs.Sends.{Sent};
+ghost use Rattle.sending.specs.Sends.{sentBy, Sent};
 
-// The latch is set if TX is now empty.
-fn tx_empty(latch: bool, left: u8) -> bool
-    ensures { λ r. ⌜ r ≡ latch || eqb left 0 ⌝ }
+// TX EMPTY is set where the packet that leaves TX is its last; RX_OVRN stays.
+fn new_latches(latches: u16, tx: u16) -> u16
+    requires { ⌜ Latches latches ⌝ }
+    ensures latched { λ r. ⌜ Latches r ⌝ }
+    ensures empty { λ r. ⌜ bit 2 r ≡ bit 2 latches || eqb tx 1 ⌝ }
+    ensures overrun { λ r. ⌜ bit 4 r ≡ bit 4 latches ⌝ }
 {
-    if latch {
-        return true;
+    if tx != 1 {
+        return latches;
     }
-    left == 0
+    bits::with_set(latches, flags::TX_EMPTY)
 }
 
 // `address` is the bit of the address's kind.
-pub fn sent_registers(r: Registers, s: Send, good: bool, address: u16) -> Registers
-    requires { ⌜ (0 < r .tx .count) × SoundQueue (r .tx) × (s .outcome ≤ 5) × (address ≤ 64) ⌝ }
-    ensures { λ x. ⌜ Sent good (sendOf s) address r x ⌝ }
+fn set_registers(words: &mut [u16], s: Send, good: bool, address: u16)
+    requires { ⌜ Kept (now words) × (s .outcome ≤ 5) × (address ≤ 64) ⌝ }
+    ensures { λ _. ⌜ Sets (sentBy good (sendOf s) address (eqb (word (now (words .entry)) 8) 1)) (now (words .entry)) (now (words .exit)) ⌝ }
 {
-    let tx = r.tx;
-    let rest = store::pop(tx);
-    let counts = tallied(good, s, r.ecr);
-    let mut next = r;
-    next.tcr = new_tcr(good, r.tcr);
-    next.ephsr = new_ephsr(good, s, address, r.ephsr, any_full(counts));
-    next.ecr = new_ecr(counts);
-    next.txempty = tx_empty(r.txempty, rest.count);
-    next.tx = rest;
-    next
+    let counts = tallied(good, s, words[ECR]);
+    let tcr = new_tcr(good, words[TCR]);
+    let ephsr = new_ephsr(good, s, address, words[EPHSR], any_full(counts));
+    let latches = new_latches(words[LATCHES], words[TX_COUNT]);
+    words[TCR] = tcr;
+    words[EPHSR] = ephsr;
+    words[ECR] = new_ecr(counts);
+    words[LATCHES] = latches;
+}
+
+// The registers become those after the send, and the head leaves TX.
+pub fn after_send(words: &mut [u16], queues: &mut [u8], s: Send, good: bool, address: u16)
+    requires { ⌜ Kept (now words) × QueuesIn (counts (now words)) (now queues) × (0 < word (now words) 8) × (s .outcome ≤ 5) × (address ≤ 64) ⌝ }
+    ensures { λ _. ⌜ Sent good (sendOf s) address (now (words .entry)) (now (queues .entry)) (now (words .exit)) (now (queues .exit)) ⌝ }
+{
+    set_registers(words, s, good, address);
+    pool::leave_tx(words, queues);
 }

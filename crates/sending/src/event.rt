@@ -1,38 +1,52 @@
 // How a send ended: is the input within its limits, and was the send good?
 use crate::Send;
+use state::flags;
 ghost use mathlib.Core.Path.{_≡_};
 ghost use Rattle.rules.specs.Send.{inLimits, good};
 ghost use Rattle.sending.specs.Numbers.{sendOf};
 
-// Refusal 11 where not. Sixteen collisions are the outcome 1, and no other.
+// The outcomes, as the input numbers them.
+const GOOD: u8 = 0;
+
+pub const SIXTEEN_COLLISIONS: u8 = 1;
+
+pub const LATE_COLLISION: u8 = 2;
+
+pub const LOST_CARRIER: u8 = 3;
+
+pub const SQE_MISSING: u8 = 4;
+
+pub const UNDERRUN: u8 = 5;
+
+// Refusal 11 where not. Sixteen collisions are that outcome, and no other.
 pub fn is_within(s: Send) -> bool
     ensures { λ r. ⌜ r ≡ inLimits (sendOf s) ⌝ }
 {
-    if s.outcome > 5 {
+    if s.outcome > UNDERRUN {
         return false;
     }
     if s.deferral > 2 {
         return false;
     }
-    if s.outcome == 1 {
+    if s.outcome == SIXTEEN_COLLISIONS {
         return s.collisions == 16;
     }
     s.collisions <= 15
 }
 
-// Lost carrier is good unless TCR bit 10 is set and bit 15 clear; a missing SQE is good unless TCR bit 12 is set.
+// Lost carrier is good unless MON_CSN is set and FDSE clear; a missing SQE is good unless STP_SQET is set.
 pub fn is_good(tcr: u16, outcome: u8) -> bool
     ensures { λ r. ⌜ r ≡ good tcr outcome ⌝ }
 {
     match outcome {
-        0 => true,
-        3 => {
-            if !bits::is_set(tcr, 10) {
+        GOOD => true,
+        LOST_CARRIER => {
+            if !bits::is_set(tcr, flags::MON_CSN) {
                 return true;
             }
-            bits::is_set(tcr, 15)
+            bits::is_set(tcr, flags::FDSE)
         }
-        4 => !bits::is_set(tcr, 12),
+        SQE_MISSING => !bits::is_set(tcr, flags::STP_SQET),
         _ => false,
     }
 }

@@ -1,7 +1,7 @@
 // A send finishes: the TX head is sent.
 use crate::Send;
 use crate::address::address_bits;
-use crate::after::sent_registers;
+use crate::after::after_send;
 use crate::completion::is_full;
 use crate::completion::is_released;
 use crate::completion::retire;
@@ -9,65 +9,90 @@ use crate::event::is_good;
 use crate::event::is_within;
 use crate::output::is_usable;
 use crate::output::put_out;
+use sets::Address;
 use state::Answer;
-use state::Registers;
-use state::Stepped;
-use store::Address;
-use store::Page;
+use state::COMPLETION_COUNT;
+use state::CONTROL;
+use state::EPHSR;
+use state::TCR;
+use state::TX_COUNT;
+use state::flags;
 ghost use mathlib.Core.Path.{_≡_};
+ghost use mathlib.Core.Bool.{false};
 ghost use Prim.Native.Nat.{_≤_, _<_};
-ghost use lib.ListN.{length, getD, drop};
+ghost use lib.ListN.{length};
 ghost use Rattle.rules.specs.Send as rules;
-ghost use Rattle.store.specs.Views.{entries};
-ghost use Rattle.state.specs.View.{view, Ready};
+ghost use Rattle.sets.specs.Views.{pagesOf};
+ghost use Rattle.packet.specs.Room.{Room};
+ghost use Rattle.state.specs.View.{word, view};
+ghost use Rattle.state.specs.Promise.{Ready};
 ghost use Rattle.sending.specs.Numbers.{sendOf};
-ghost use Rattle.sending.specs.Sends.{Sends};
+ghost use Rattle.sending.specs.Sends.{headSent, Completes, Sends};
+
+// What a send does once its bytes are out: registers, TX, the status word, and what becomes of the packet. `pages` are those of the TX head.
+fn complete(
+    words: &mut [u16],
+    sets: &mut [u32],
+    queues: &mut [u8],
+    memory: &mut [u8],
+    pages: u32,
+    s: Send,
+    good: bool,
+    released: bool,
+)
+    requires { ⌜ Ready (now words) (now sets) (now queues) × (0 < word (now words) 8) × Room 10 pages (now memory) × (s .outcome ≤ 5) × (released ≡ false → word (now words) 9 < 24) ⌝ }
+    ensures { λ _. ⌜ Completes released good (sendOf s) (pagesOf pages) (view (now (words .entry)) (now (sets .entry)) (now (queues .entry)) (now (memory .entry))) (now (words .exit)) (now (sets .exit)) (now (queues .exit)) (now (memory .exit)) ⌝ }
+{
+    let head = pool::tx_head(queues);
+    let address = address_bits(memory, pages);
+    after_send(words, queues, s, good, address);
+    packet::write_status(memory, pages, words[EPHSR]);
+    retire(words, sets, queues, head, released);
+}
 
 // The TX head is sent (the rules' `ifSendable`): refusals 13 and 14, and else all that a send does.
 fn send_head(
-    r: Registers,
-    map: [[Page; 8]; 24],
+    words: &mut [u16],
+    sets: &mut [u32],
+    queues: &mut [u8],
     memory: &mut [u8],
     out: &mut [u8],
     s: Send,
-) -> Stepped
-    requires { ⌜ Ready r map × (length (now memory) ≡ 6144) × (2048 ≤ length (now out)) × (0 < r .tx .count) × (s .outcome ≤ 5) ⌝ }
-    ensures { λ x. ⌜ Sends (rules.ifSendable (sendOf s) (getD (entries (r .tx)) 0 0) (drop 1 (entries (r .tx))) (view r map (now (memory .entry))) (now (out .entry))) (now (memory .exit)) (now (out .exit)) x ⌝ }
+) -> Answer
+    requires { ⌜ Ready (now words) (now sets) (now queues) × (length (now memory) ≡ 6144) × (2048 ≤ length (now out)) × (0 < word (now words) 8) × (s .outcome ≤ 5) ⌝ }
+    ensures { λ a. ⌜ Sends (headSent (sendOf s) (view (now (words .entry)) (now (sets .entry)) (now (queues .entry)) (now (memory .entry))) (now (out .entry))) a (now (words .exit)) (now (sets .exit)) (now (queues .exit)) (now (memory .exit)) (now (out .exit)) ⌝ }
 {
-    let tx = r.tx;
-    let done = r.done;
-    let head = store::head(tx);
-    let row = store::row_of(map, head);
-    let count = packet::read_word(memory, row, Address(2));
-    if !is_usable(count, store::pages_in(row)) {
-        return state::make_stepped(Answer::BadCount, r, map);
+    let pages = sets::set_of(sets, pool::tx_head(queues));
+    let count = packet::read_word(memory, pages, Address(2));
+    if !is_usable(count, sets::page_count(pages)) {
+        return Answer::BadCount;
     }
-    let good = is_good(r.tcr, s.outcome);
-    let released = is_released(good, r.control);
-    if is_full(released, done.count) {
-        return state::make_stepped(Answer::CompletionFull, r, map);
+    let good = is_good(words[TCR], s.outcome);
+    let released = is_released(good, words[CONTROL]);
+    if is_full(released, words[COMPLETION_COUNT]) {
+        return Answer::CompletionFull;
     }
-    let value = put_out(memory, row, r.tcr, count, out);
-    let next = sent_registers(r, s, good, address_bits(memory, row));
-    packet::write_status(memory, row, next.ephsr);
-    retire(next, map, head, released, value)
+    let value = put_out(memory, pages, words[TCR], count, out);
+    complete(words, sets, queues, memory, pages, s, good, released);
+    Answer::Done(value)
 }
 
 // A send finishes, on a chip that is well formed.
 pub fn finished(
-    r: Registers,
-    map: [[Page; 8]; 24],
+    words: &mut [u16],
+    sets: &mut [u32],
+    queues: &mut [u8],
     memory: &mut [u8],
     out: &mut [u8],
     outcome: u8,
     collisions: u8,
     deferral: u8,
-) -> Stepped
-    requires { ⌜ Ready r map × (length (now memory) ≡ 6144) ⌝ }
-    ensures { λ x. ⌜ Sends (rules.finish (record { outcome = outcome; collisions = collisions; deferral = deferral }) (view r map (now (memory .entry))) (now (out .entry))) (now (memory .exit)) (now (out .exit)) x ⌝ }
+) -> Answer
+    requires { ⌜ Ready (now words) (now sets) (now queues) × (length (now memory) ≡ 6144) ⌝ }
+    ensures { λ a. ⌜ Sends (rules.finish (record { outcome = outcome; collisions = collisions; deferral = deferral }) (view (now (words .entry)) (now (sets .entry)) (now (queues .entry)) (now (memory .entry))) (now (out .entry))) a (now (words .exit)) (now (sets .exit)) (now (queues .exit)) (now (memory .exit)) (now (out .exit)) ⌝ }
 {
     if out.len() < 2048 {
-        return state::make_stepped(Answer::ShortOutput, r, map);
+        return Answer::ShortOutput;
     }
     let s = Send {
         outcome,
@@ -75,14 +100,13 @@ pub fn finished(
         deferral,
     };
     if !is_within(s) {
-        return state::make_stepped(Answer::OutsideLimits, r, map);
+        return Answer::OutsideLimits;
     }
-    if !bits::is_set(r.tcr, 0) {
-        return state::make_stepped(Answer::NothingToSend, r, map);
+    if !bits::is_set(words[TCR], flags::TXENA) {
+        return Answer::NothingToSend;
     }
-    let tx = r.tx;
-    if tx.count == 0 {
-        return state::make_stepped(Answer::NothingToSend, r, map);
+    if words[TX_COUNT] == 0 {
+        return Answer::NothingToSend;
     }
-    send_head(r, map, memory, out, s)
+    send_head(words, sets, queues, memory, out, s)
 }

@@ -4,7 +4,7 @@ mod nibbles; // nibbles.rt: the nibbles of ECR
 mod status; // status.rt: EPHSR and TCR after it
 mod address; // address.rt: the kind of the address
 mod output; // output.rt: what is put out
-mod after; // after.rt: the registers after it
+mod after; // after.rt: the registers and TX after it
 mod completion; // completion.rt: what becomes of the packet
 mod finish; // finish.rt: all of it, with its refusals
 

@@ -8,7 +8,10 @@ ghost use lib.Dec.{eqb};
 ghost use Rattle.rules.specs.Send as rules;
 ghost use Rattle.sending.specs.Numbers.{sendOf, tallyOf, Small};
 
-// A nibble stops at 15.
+// A nibble stops at this count.
+const FULL: u16 = 15;
+
+// The nibble after a send that counts in it, or does not.
 pub fn counted(on: bool, x: u16) -> u16
     requires { ⌜ x ≤ 15 ⌝ }
     ensures { λ r. ⌜ (r ≡ rules.counted on x) × (r ≤ 15) ⌝ }
@@ -16,7 +19,7 @@ pub fn counted(on: bool, x: u16) -> u16
     if !on {
         return x;
     }
-    if x < 15 { x + 1 } else { 15 }
+    if x < FULL { x + 1 } else { FULL }
 }
 
 // A failed send after one collision counts in neither nibble of collisions.
@@ -50,18 +53,18 @@ pub fn new_ecr(t: Tally) -> u16
     t.single + 16 * t.several + 256 * t.deferred + 4096 * t.excessive
 }
 
-// Is any at 15?
+// Is any full?
 pub fn any_full(t: Tally) -> bool
     ensures { λ r. ⌜ r ≡ rules.anyAt15 (tallyOf t) ⌝ }
 {
-    if t.single == 15 {
+    if t.single == FULL {
         return true;
     }
-    if t.several == 15 {
+    if t.several == FULL {
         return true;
     }
-    if t.deferred == 15 {
+    if t.deferred == FULL {
         return true;
     }
-    t.excessive == 15
+    t.excessive == FULL
 }

@@ -1,12 +1,13 @@
 // What a send puts out: the packet's data, padded.
-use store::Address;
-use store::Page;
+use sets::Address;
+use state::PAGE_BYTES;
+use state::flags;
 ghost use mathlib.Core.Path.{_≡_};
 ghost use Prim.Native.Nat.{_+_, _-_, _≤_};
 ghost use lib.ListN.{length, replicate};
 ghost use lib.Seq.{sets};
 ghost use Rattle.rules.specs.Send.{usable, sendLength, putOut};
-ghost use Rattle.store.specs.Views.{used};
+ghost use Rattle.sets.specs.Views.{pagesOf};
 ghost use Rattle.packet.specs.Room.{Room};
 ghost use Rattle.sending.specs.Sends.{PutsOut};
 
@@ -14,7 +15,7 @@ ghost use Rattle.sending.specs.Sends.{PutsOut};
 const LEAST: usize = 60;
 
 // The byte count must be even, at least 12, and within the pages: refusal 13 where not.
-pub fn is_usable(count: u16, pages: usize) -> bool
+pub fn is_usable(count: u16, pages: u32) -> bool
     requires { ⌜ pages ≤ 8 ⌝ }
     ensures { λ r. ⌜ r ≡ usable count pages ⌝ }
 {
@@ -24,15 +25,15 @@ pub fn is_usable(count: u16, pages: usize) -> bool
     if count < 12 {
         return false;
     }
-    count as usize <= 256 * pages
+    count as u32 <= PAGE_BYTES * pages
 }
 
-// c - 5 bytes if bit 5 of the byte at c - 1 is set, else c - 6.
+// c - 5 bytes if ODD is set in the control byte, which is at c - 1, else c - 6.
 fn send_length(count: u16, control: u8) -> usize
     requires { ⌜ 6 ≤ count ⌝ }
     ensures { λ r. ⌜ (r ≡ sendLength count control) × (r + 5 ≤ count) ⌝ }
 {
-    if bits::byte_is_set(control, 5) {
+    if bits::byte_is_set(control, flags::ODD) {
         return count as usize - 5;
     }
     count as usize - 6
@@ -50,15 +51,15 @@ fn pad(out: &mut [u8], from: usize)
     }
 }
 
-// Puts the data out, padded with TCR bit 7, and says how long it is.
-pub fn put_out(memory: &[u8], row: [Page; 8], tcr: u16, count: u16, out: &mut [u8]) -> u16
-    requires { ⌜ (12 ≤ count) × (count ≤ 2048) × (2048 ≤ length (now out)) × Room count row (now memory) ⌝ }
-    ensures { λ r. ⌜ PutsOut (putOut tcr count (used row) (now (memory .entry))) (now (out .entry)) (now (out .exit)) r ⌝ }
+// Puts the data out, padded with PAD_EN, and says how long it is.
+pub fn put_out(memory: &[u8], pages: u32, tcr: u16, count: u16, out: &mut [u8]) -> u16
+    requires { ⌜ (12 ≤ count) × (count ≤ 2048) × (2048 ≤ length (now out)) × Room count pages (now memory) ⌝ }
+    ensures { λ r. ⌜ PutsOut (putOut tcr count (pagesOf pages) (now (memory .entry))) (now (out .entry)) (now (out .exit)) r ⌝ }
 {
-    let control = packet::read_byte(memory, row, Address(count - 1));
+    let control = packet::read_byte(memory, pages, Address(count - 1));
     let len = send_length(count, control);
-    packet::copy_out(memory, row, len, out);
-    if !bits::is_set(tcr, 7) {
+    packet::copy_out(memory, pages, len, out);
+    if !bits::is_set(tcr, flags::PAD_EN) {
         return len as u16;
     }
     pad(out, len);

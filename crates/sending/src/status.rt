@@ -1,5 +1,11 @@
 // EPHSR and TCR after a send.
 use crate::Send;
+use crate::event::LATE_COLLISION;
+use crate::event::LOST_CARRIER;
+use crate::event::SIXTEEN_COLLISIONS;
+use crate::event::SQE_MISSING;
+use crate::event::UNDERRUN;
+use state::flags;
 ghost use mathlib.Core.Path.{_≡_};
 ghost use mathlib.Core.Bool.{cond, _||_};
 ghost use Prim.Native.Nat.{_+_, _*_, _^_, _≤_};
@@ -13,12 +19,12 @@ fn failure(outcome: u8) -> u16
     ensures { λ r. ⌜ (r ≡ 2 ^ failureBit outcome) × (r ≤ 32768) ⌝ }
 {
     match outcome {
-        1 => 16,
-        2 => 512,
-        3 => 1024,
-        4 => 32,
-        5 => 32768,
-        _ => 1,
+        SIXTEEN_COLLISIONS => 1 << flags::COL16,
+        LATE_COLLISION => 1 << flags::LATCOL,
+        LOST_CARRIER => 1 << flags::LOST_CARR,
+        SQE_MISSING => 1 << flags::SQET,
+        UNDERRUN => 1 << flags::TXUNRN,
+        _ => 1 << flags::TX_SUC,
     }
 }
 
@@ -28,8 +34,8 @@ fn collision_bits(collisions: u8) -> u16
 {
     match collisions {
         0 => 0,
-        1 => 2,
-        _ => 4,
+        1 => 1 << flags::SNGLCOL,
+        _ => 1 << flags::MULCOL,
     }
 }
 
@@ -39,7 +45,7 @@ fn outcome_bits(good: bool, s: Send) -> u16
     ensures { λ r. ⌜ (r ≡ outcomeBits good (sendOf s)) × (r ≤ 32772) ⌝ }
 {
     if good {
-        return 1 + 32 * bits::flag_of(s.outcome == 4);
+        return (1 << flags::TX_SUC) + (1 << flags::SQET) * bits::flag_of(s.outcome == SQE_MISSING);
     }
     failure(s.outcome) + collision_bits(s.collisions)
 }
@@ -48,7 +54,7 @@ fn outcome_bits(good: bool, s: Send) -> u16
 fn roll_over(ephsr: u16, full: bool) -> bool
     ensures { λ r. ⌜ r ≡ bit 12 ephsr || full ⌝ }
 {
-    if bits::is_set(ephsr, 12) {
+    if bits::is_set(ephsr, flags::CTR_ROL) {
         return true;
     }
     full
@@ -59,7 +65,7 @@ pub fn new_ephsr(good: bool, s: Send, address: u16, ephsr: u16, full: bool) -> u
     requires { ⌜ (s .outcome ≤ 5) × (address ≤ 64) ⌝ }
     ensures { λ r. ⌜ r ≡ outcomeBits good (sendOf s) + address + 2 ^ 12 * flag (bit 12 ephsr || full) ⌝ }
 {
-    outcome_bits(good, s) + address + 4096 * bits::flag_of(roll_over(ephsr, full))
+    outcome_bits(good, s) + address + (1 << flags::CTR_ROL) * bits::flag_of(roll_over(ephsr, full))
 }
 
 // A failure clears TXENA.
@@ -69,5 +75,5 @@ pub fn new_tcr(good: bool, tcr: u16) -> u16
     if good {
         return tcr;
     }
-    bits::with_clear(tcr, 0)
+    bits::with_clear(tcr, flags::TXENA)
 }

@@ -7,10 +7,9 @@ use lib.ListN.{length, take, drop, getD, length-append}
 use lib.Seq.{length-take-le, take-at, drop-cons}
 use Rattle.rules.specs.Bench.{Bench, Answered, answer, eventOf, line}
 use Rattle.lists.specs.Written.{Writes}
-use Rattle.store.specs.declared.Page.{Page}
-use Rattle.state.specs.declared.Registers.{Registers}
-use Rattle.state.specs.declared.Stepped.{Stepped}
-use Rattle.state.specs.View.{view, replyOf}
+use Rattle.state.specs.declared.Answer.{Answer}
+use Rattle.state.specs.Meaning.{replyOf}
+use Rattle.state.specs.View.{view}
 use Rattle.records.specs.Gathers.{holding}
 use Rattle.serving.specs.Turns.{Held, Turns}
 use Rattle.serving.specs.Batch as batch
@@ -47,26 +46,26 @@ taken {before} {after} {text} {at} {end} h w =
     ∙ take-at (take at before ++ text) (drop (at + length text) before) end front
 
 -- No record is answered yet.
-pub none-yet : {k number : ℕ} (input : List ℕ) (r : Registers) (m : List (List Page)) (mem wire : List ℕ) (have : ℕ) (out lines : List ℕ) → number ≡ k → Held r m mem wire have
-    → batch.Answered 0 k input (holding (view r m mem) (take have wire) out) r m mem wire have out lines 0 number
+pub none-yet : {k number : ℕ} (input w s q mem wire : List ℕ) (have : ℕ) (out lines : List ℕ) → number ≡ k → Held w s q mem wire have
+    → batch.Answered 0 k input (holding (view w s q mem) (take have wire) out) w s q mem wire have out lines 0 number
 unfolding benchAfter linesFor
-none-yet input r m mem wire have out lines e h = record { held = h; bench = refl; text = refl; counted = omega (arith, e) }
+none-yet input w s q mem wire have out lines e h = record { held = h; bench = refl; text = refl; counted = omega (arith, e) }
 
 -- One record more.
-pub one-more : (n n′ k : ℕ) (input : List ℕ) (b : Bench) (bytes : List ℕ) {r : Registers} {m : List (List Page)} {mem wire : List ℕ} {have : ℕ} {out lines : List ℕ} {end number : ℕ}
-    {x : Stepped} {mem′ wire′ : List ℕ} {have′ : ℕ} {out′ lines′ : List ℕ} {end′ number′ : ℕ}
+pub one-more : (n n′ k : ℕ) (input : List ℕ) (b : Bench) (bytes : List ℕ) {w s q mem wire : List ℕ} {have : ℕ} {out lines : List ℕ} {end number : ℕ}
+    {x : Answer} {w′ s′ q′ mem′ wire′ : List ℕ} {have′ : ℕ} {out′ lines′ : List ℕ} {end′ number′ : ℕ}
     → n′ ≡ suc n → bytes ≡ recordAt n input → end ≤ length lines
-    → batch.Answered n k input b r m mem wire have out lines end number
-    → Turns (answer (eventOf bytes) (holding (view r m mem) (take have wire) out)) x mem′ wire′ have′ out′
-    → Writes lines end (line number (replyOf (x .answer))) lines′ end′ → number′ ≡ number + 1
-    → batch.Answered n′ k input b (x .registers) (x .pages) mem′ wire′ have′ out′ lines′ end′ number′
+    → batch.Answered n k input b w s q mem wire have out lines end number
+    → Turns (answer (eventOf bytes) (holding (view w s q mem) (take have wire) out)) x w′ s′ q′ mem′ wire′ have′ out′
+    → Writes lines end (line number (replyOf x)) lines′ end′ → number′ ≡ number + 1
+    → batch.Answered n′ k input b w′ s′ q′ mem′ wire′ have′ out′ lines′ end′ number′
 unfolding benchAfter linesFor
-one-more n n′ k input b bytes {r} {m} {mem} {wire} {have} {out} i q h a t w j =
-    let e : answer (eventOf bytes) (holding (view r m mem) (take have wire) out) ≡ answer (eventOf (recordAt n input)) (benchAfter n input b) =
-    ap₂ (λ (l : List ℕ) (d : Bench). answer (eventOf l) d) q (a .bench) in
+one-more n n′ k input b bytes {w} {s} {q} {mem} {wire} {have} {out} i e₀ h a t z j =
+    let e : answer (eventOf bytes) (holding (view w s q mem) (take have wire) out) ≡ answer (eventOf (recordAt n input)) (benchAfter n input b) =
+    ap₂ (λ (l : List ℕ) (d : Bench). answer (eventOf l) d) e₀ (a .bench) in
     rw i (record {
       held = t .held;
-      bench = t .bench ∙ ap (λ (z : Answered). z .after) e;
-      text = taken h w ∙ ap₂ (λ (p q : List ℕ). p ++ q) (a .text) (ap₂ line (a .counted) (t .reply ∙ ap (λ (z : Answered). z .reply) e));
+      bench = t .bench ∙ ap (λ (y : Answered). y .after) e;
+      text = taken h z ∙ ap₂ (λ (x y : List ℕ). x ++ y) (a .text) (ap₂ line (a .counted) (t .reply ∙ ap (λ (y : Answered). y .reply) e));
       counted = omega (arith, a .counted, j);
     })

@@ -13,16 +13,11 @@ use Rattle.rules.specs.Receive.{Frame}
 use Rattle.rules.specs.Send.{Send}
 use Rattle.rules.specs.Step.{Input, driver, frame, sent, serve, stepOf, step}
 use Rattle.rules.specs.Bench as rules
-use Rattle.store.specs.declared.Page.{Page}
-use Rattle.state.specs.declared.Registers.{Registers}
-use Rattle.state.specs.declared.Stepped.{Stepped}
-use Rattle.state.specs.declared.Touched.{Touched}
 use Rattle.state.specs.declared.Answer.{Answer}
 use Rattle.state.specs.declared.Answer.the-variants.{CutShort}
 use Rattle.state.specs.View.{view}
-use Rattle.state.specs.Promise.{Right}
+use Rattle.state.specs.Entry.{Right}
 use Rattle.records.specs.Gathers.{holding}
-use Rattle.chip.specs.Entry.{besideMap}
 use Rattle.serving.specs.Turns.{Held, Turns, Gathered}
 
 -- Accesses and frames do not look at the output buffer, and leave it.
@@ -44,55 +39,48 @@ frame-beside : (f : Frame) (c : Chip) (out : List ℕ) → step (frame f) c out 
 unfolding serve
 frame-beside f c out = beside-output (frame f) c out (λ o. refl)
 
-module _ (r : Registers) (m : List (List Page)) (mem wire : List ℕ) (have : ℕ) (out : List ℕ) (h : Held r m mem wire have) where
-  bench : rules.Bench
-  bench = holding (view r m mem) (take have wire) out
-
+module _ (w s q mem wire : List ℕ) (have : ℕ) (out : List ℕ) (h : Held w s q mem wire have) where
   -- a step of the chip, after which so many wire bytes are held
-  stepping : (i : Input) (left : ℕ) (x : Stepped) (mem′ out′ : List ℕ) → left ≤ 2048 → Right (step i (view r m mem) out) x mem′ out′
-      → Turns (rules.asStep i (take left wire) (holding (view r m mem) (take have wire) out)) x mem′ wire left out′
-  stepping i left x mem′ out′ few p = record {
+  stepping : (i : Input) (left : ℕ) (a : Answer) (w′ s′ q′ mem′ out′ : List ℕ) → left ≤ 2048 → Right (step i (view w s q mem) out) a w′ s′ q′ mem′ out′
+      → Turns (rules.asStep i (take left wire) (holding (view w s q mem) (take have wire) out)) a w′ s′ q′ mem′ wire left out′
+  stepping i left a w′ s′ q′ mem′ out′ few p = record {
     reply = p .reply;
     bench = λ j. holding (p .chip j) (take left wire) (p .output j);
     held = record { chip = p .ready; room = h .room; few = few };
   }
 
   -- the same of a step that was told with an empty output buffer
-  with-output : (i : Input) (x : Stepped) (mem′ : List ℕ) → step i (view r m mem) out ≡ leaving out (record { reply = step i (view r m mem) [] .reply; chip = step i (view r m mem) [] .chip })
-      → Right (step i (view r m mem) []) x mem′ [] → Right (step i (view r m mem) out) x mem′ out
-  with-output i x mem′ e p = rw e (record { chip = p .chip; reply = p .reply; output = refl; ready = p .ready })
+  with-output : (i : Input) (a : Answer) (w′ s′ q′ mem′ : List ℕ) → step i (view w s q mem) out ≡ leaving out (record { reply = step i (view w s q mem) [] .reply; chip = step i (view w s q mem) [] .chip })
+      → Right (step i (view w s q mem) []) a w′ s′ q′ mem′ [] → Right (step i (view w s q mem) out) a w′ s′ q′ mem′ out
+  with-output i a w′ s′ q′ mem′ e p = rw e (record { chip = p .chip; reply = p .reply; output = refl; ready = p .ready })
 
-  pub access-turns : (a : Access) (x : Stepped) (mem′ : List ℕ) → Right (step (driver a) (view r m mem) []) x mem′ []
-      → Turns (rules.answer (rules.access a) (holding (view r m mem) (take have wire) out)) x mem′ wire have out
+  pub access-turns : (i : Access) (a : Answer) (w′ s′ q′ mem′ : List ℕ) → Right (step (driver i) (view w s q mem) []) a w′ s′ q′ mem′ []
+      → Turns (rules.answer (rules.access i) (holding (view w s q mem) (take have wire) out)) a w′ s′ q′ mem′ wire have out
   unfolding rules.answer
-  access-turns a x mem′ p = stepping (driver a) have x mem′ out (h .few) (with-output (driver a) x mem′ (access-beside a (view r m mem) out) p)
+  access-turns i a w′ s′ q′ mem′ p = stepping (driver i) have a w′ s′ q′ mem′ out (h .few) (with-output (driver i) a w′ s′ q′ mem′ (access-beside i (view w s q mem) out) p)
 
-  pub frame-turns : (crc align : Bool) (x : Stepped) (mem′ : List ℕ)
-      → Right (step (frame (record { bytes = take have wire; badCrc = crc; alignment = align })) (view r m mem) []) x mem′ []
-      → Turns (rules.answer (rules.frameEnds crc align) (holding (view r m mem) (take have wire) out)) x mem′ wire 0 out
+  pub frame-turns : (crc align : Bool) (a : Answer) (w′ s′ q′ mem′ : List ℕ) (left : ℕ)
+      → Right (step (frame (record { bytes = take have wire; badCrc = crc; alignment = align })) (view w s q mem) []) a w′ s′ q′ mem′ [] × (left ≡ 0)
+      → Turns (rules.answer (rules.frameEnds crc align) (holding (view w s q mem) (take have wire) out)) a w′ s′ q′ mem′ wire left out
   unfolding rules.answer
-  frame-turns crc align x mem′ p = stepping _ 0 x mem′ out (omega arith) (with-output _ x mem′ (frame-beside _ (view r m mem) out) p)
+  frame-turns crc align a w′ s′ q′ mem′ left p =
+      rw (p .1) (stepping _ 0 a w′ s′ q′ mem′ out (omega arith) (with-output _ a w′ s′ q′ mem′ (frame-beside _ (view w s q mem) out) (p .0)))
 
-  pub send-turns : (s : Send) (x : Stepped) (mem′ out′ : List ℕ) → Right (step (sent s) (view r m mem) out) x mem′ out′
-      → Turns (rules.answer (rules.send s) (holding (view r m mem) (take have wire) out)) x mem′ wire have out′
+  pub send-turns : (x : Send) (a : Answer) (w′ s′ q′ mem′ out′ : List ℕ) → Right (step (sent x) (view w s q mem) out) a w′ s′ q′ mem′ out′
+      → Turns (rules.answer (rules.send x) (holding (view w s q mem) (take have wire) out)) a w′ s′ q′ mem′ wire have out′
   unfolding rules.answer
-  send-turns s x mem′ out′ p = stepping (sent s) have x mem′ out′ (h .few) p
+  send-turns x a w′ s′ q′ mem′ out′ p = stepping (sent x) have a w′ s′ q′ mem′ out′ (h .few) p
 
-  pub unknown-turns : (t : Touched) → t ≡ record { answer = CutShort; registers = r }
-      → Turns (rules.answer rules.unknown (holding (view r m mem) (take have wire) out)) (besideMap t m) mem wire have out
+  pub unknown-turns : Turns (rules.answer rules.unknown (holding (view w s q mem) (take have wire) out)) CutShort w s q mem wire have out
   unfolding rules.answer
-  unknown-turns t e = rw e (record { reply = refl; bench = refl; held = h })
+  unknown-turns = record { reply = refl; bench = refl; held = h }
 
-  pub wire-turns : (count : ℕ) (bytes : List ℕ) (a : Answer) (t : Touched) (wire′ : List ℕ) (have′ : ℕ) → t ≡ record { answer = a; registers = r } → Gathered wire have bytes count a wire′ have′
-      → Turns (rules.answer (rules.wire count (drop 2 bytes)) (holding (view r m mem) (take have wire) out)) (besideMap t m) mem wire′ have′ out
+  pub wire-turns : (count : ℕ) (bytes : List ℕ) (a : Answer) (wire′ : List ℕ) (have′ : ℕ) → Gathered wire have bytes count a wire′ have′
+      → Turns (rules.answer (rules.wire count (drop 2 bytes)) (holding (view w s q mem) (take have wire) out)) a w s q mem wire′ have′ out
   unfolding rules.answer
-  wire-turns count bytes a t wire′ have′ e g =
-      rw (e, g .rule (view r m mem) out) (record { reply = refl; bench = refl; held = record { chip = h .chip; room = g .room; few = g .few } })
+  wire-turns count bytes a wire′ have′ g =
+      rw (g .rule (view w s q mem) out) (record { reply = refl; bench = refl; held = record { chip = h .chip; room = g .room; few = g .few } })
 
 -- An event said otherwise is the same event.
-pub turns-as : {e k : rules.Event} (b : rules.Bench) {x : Stepped} {mem wire : List ℕ} {have : ℕ} {out : List ℕ} → e ≡ k → Turns (rules.answer k b) x mem wire have out → Turns (rules.answer e b) x mem wire have out
-turns-as b {x} {mem} {wire} {have} {out} q = subst (λ (k : rules.Event). Turns (rules.answer k b) x mem wire have out) (sym q)
-
--- No wire byte is held any more.
-pub none-left : {a : rules.Answered} {x : Stepped} {mem wire : List ℕ} {have : ℕ} {out : List ℕ} → have ≡ 0 → Turns a x mem wire 0 out → Turns a x mem wire have out
-none-left {a} {x} {mem} {wire} {have} {out} e = subst (λ (n : ℕ). Turns a x mem wire n out) (sym e)
+pub turns-as : {e k : rules.Event} (b : rules.Bench) {a : Answer} {w s q mem wire : List ℕ} {have : ℕ} {out : List ℕ} → e ≡ k → Turns (rules.answer k b) a w s q mem wire have out → Turns (rules.answer e b) a w s q mem wire have out
+turns-as b {a} {w} {s} {q} {mem} {wire} {have} {out} x = subst (λ (k : rules.Event). Turns (rules.answer k b) a w s q mem wire have out) (sym x)

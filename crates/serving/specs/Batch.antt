@@ -4,8 +4,6 @@ use mathlib.Core.List.{List, [], _++_}
 use Prim.Native.Nat.{ℕ, zero, suc, _+_, _*_}
 use lib.ListN.{take, drop}
 use Rattle.rules.specs.Bench.{Bench, answer, eventOf, line}
-use Rattle.store.specs.declared.Page.{Page}
-use Rattle.state.specs.declared.Registers.{Registers}
 use Rattle.state.specs.View.{view}
 use Rattle.records.specs.Gathers.{holding}
 use Rattle.serving.specs.Turns.{Held}
@@ -24,9 +22,9 @@ unfoldable pub linesFor : ℕ → ℕ → List ℕ → Bench → List ℕ
 linesFor zero k input b = []
 linesFor (suc n) k input b = linesFor n k input b ++ line (k + n) (answer (eventOf (recordAt n input)) (benchAfter n input b) .reply)
 
--- registers, page map, memory, wire bytes, output and lines after the first n records of the input, answered from the bench b on
-pub record Answered (n k : ℕ) (input : List ℕ) (b : Bench) (r : Registers) (m : List (List Page)) (mem wire : List ℕ) (have : ℕ) (out lines : List ℕ) (end number : ℕ) : Type 0 where
-  pub held : Held r m mem wire have
-  pub bench : holding (view r m mem) (take have wire) out ≡ benchAfter n input b
+-- state, memory, wire bytes, output and lines after the first n records of the input, answered from the bench b on
+pub record Answered (n k : ℕ) (input : List ℕ) (b : Bench) (w s q mem wire : List ℕ) (have : ℕ) (out lines : List ℕ) (end number : ℕ) : Type 0 where
+  pub held : Held w s q mem wire have
+  pub bench : holding (view w s q mem) (take have wire) out ≡ benchAfter n input b
   pub text : take end lines ≡ linesFor n k input b
   pub counted : number ≡ k + n

@@ -6,25 +6,23 @@ use lib.ListN.{length, take, drop}
 use Rattle.rules.specs.Chip.{Chip}
 use Rattle.rules.specs.Bench as rules
 use Rattle.rules.specs.Bench.{gather}
-use Rattle.store.specs.declared.Page.{Page}
-use Rattle.state.specs.declared.Registers.{Registers}
-use Rattle.state.specs.declared.Stepped.{Stepped}
 use Rattle.state.specs.declared.Answer.{Answer}
-use Rattle.state.specs.View.{view, replyOf}
-use Rattle.state.specs.Promise.{InOrder}
+use Rattle.state.specs.Meaning.{replyOf}
+use Rattle.state.specs.View.{view}
+use Rattle.state.specs.Entry.{InOrder}
 use Rattle.records.specs.Gathers.{holding}
 
 -- a chip in order, and wire bytes within their buffer
-pub record Held (r : Registers) (m : List (List Page)) (mem wire : List ℕ) (have : ℕ) : Type 0 where
-  pub chip : InOrder r m mem
+pub record Held (w s q mem wire : List ℕ) (have : ℕ) : Type 0 where
+  pub chip : InOrder w s q mem
   pub room : length wire ≡ 2048
   pub few : have ≤ 2048
 
--- x is returned, and memory, wire bytes and output are then these
-pub record Turns (a : rules.Answered) (x : Stepped) (mem wire : List ℕ) (have : ℕ) (out : List ℕ) : Type 0 where
-  pub reply : replyOf (x .answer) ≡ a .reply
-  pub bench : holding (view (x .registers) (x .pages) mem) (take have wire) out ≡ a .after
-  pub held : Held (x .registers) (x .pages) mem wire have
+-- a is returned, and state, memory, wire bytes and output are then these
+pub record Turns (x : rules.Answered) (a : Answer) (w s q mem wire : List ℕ) (have : ℕ) (out : List ℕ) : Type 0 where
+  pub reply : replyOf a ≡ x .reply
+  pub bench : holding (view w s q mem) (take have wire) out ≡ x .after
+  pub held : Held w s q mem wire have
 
 -- wire bytes are gathered: for any chip and output beside them the rules' `gather` says this
 pub record Gathered (wire : List ℕ) (have : ℕ) (bytes : List ℕ) (count : ℕ) (a : Answer) (wire′ : List ℕ) (have′ : ℕ) : Type 0 where

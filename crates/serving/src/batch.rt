@@ -1,19 +1,14 @@
 // The records at hand: each complete one is answered, and its line joins the lines to be written.
-use crate::task::Task;
-use crate::task::task_of;
-use crate::turn::answer_moving;
-use crate::turn::answer_still;
+use crate::turn::answer;
 use records::Counter;
 use state::Answer;
-use state::Registers;
-use state::Stepped;
-use store::Page;
 ghost use mathlib.Core.Path.{_≡_};
 ghost use Prim.Native.Nat.{_+_, _/_, _≤_};
 ghost use lib.ListN.{length, take, drop};
 ghost use Rattle.rules.specs.Bench.{line};
 ghost use Rattle.lists.specs.Written.{Writes};
-ghost use Rattle.state.specs.View.{view, replyOf};
+ghost use Rattle.state.specs.Meaning.{replyOf};
+ghost use Rattle.state.specs.View.{view};
 ghost use Rattle.records.specs.Counting.{Counts};
 ghost use Rattle.records.specs.Gathers.{holding};
 ghost use Rattle.serving.specs.Turns.{Held};
@@ -46,8 +41,9 @@ pub fn print(lines: &mut [u8], at: usize, counter: Counter, answer: Answer) -> u
 
 // Each complete record of the input; the lines stand before `end`.
 pub fn answer_all(
-    mut r: Registers,
-    mut map: [[Page; 8]; 24],
+    words: &mut [u16],
+    sets: &mut [u32],
+    queues: &mut [u8],
     memory: &mut [u8],
     wire: &mut [u8],
     have: &mut usize,
@@ -56,11 +52,11 @@ pub fn answer_all(
     lines: &mut [u8],
     end: &mut usize,
     number: &mut u64,
-) -> Stepped
-    requires { ⌜ Held r map (now memory) (now wire) (now have) ⌝ }
+)
+    requires { ⌜ Held (now words) (now sets) (now queues) (now memory) (now wire) (now have) ⌝ }
     requires { ⌜ (length (now input) ≤ 8192) × (32768 ≤ length (now lines)) × (now number + 1024 ≤ 0xffffffffffffffff) ⌝ }
-    ensures { λ x. ⌜ Answered (length (now (input .entry)) / 8) (now (number .entry)) (now (input .entry)) (holding (view r map (now (memory .entry))) (take (now (have .entry)) (now (wire .entry))) (now (out .entry))) (x .registers) (x .pages) (now (memory .exit)) (now (wire .exit)) (now (have .exit)) (now (out .exit)) (now (lines .exit)) (now (end .exit)) (now (number .exit)) ⌝ }
-    ensures { λ x. ⌜ now (end .exit) ≤ 32768 ⌝ }
+    ensures answered { λ _. ⌜ Answered (length (now (input .entry)) / 8) (now (number .entry)) (now (input .entry)) (holding (view (now (words .entry)) (now (sets .entry)) (now (queues .entry)) (now (memory .entry))) (take (now (have .entry)) (now (wire .entry))) (now (out .entry))) (now (words .exit)) (now (sets .exit)) (now (queues .exit)) (now (memory .exit)) (now (wire .exit)) (now (have .exit)) (now (out .exit)) (now (lines .exit)) (now (end .exit)) (now (number .exit)) ⌝ }
+    ensures fits { λ _. ⌜ now (end .exit) ≤ 32768 ⌝ }
 {
     let mut at = 0;
     *end = 0;
@@ -68,26 +64,9 @@ pub fn answer_all(
     while at + 8 <= input.len() {
         let bytes = record_at(input, at);
         at += 8;
-        let task = task_of(r.bank, bytes);
-        match task {
-            Task::Still(still) => {
-                let t = answer_still(still, r, map, memory, wire, have, bytes);
-                let answer = t.answer;
-                r = t.registers;
-                *end = print(lines, *end, counter, answer);
-                counter = records::next(counter);
-                continue;
-            }
-            Task::Moving(moving) => {
-                let s = answer_moving(moving, r, map, memory, wire, have, out);
-                let answer = s.answer;
-                r = s.registers;
-                map = state::pages_of(s);
-                *end = print(lines, *end, counter, answer);
-                counter = records::next(counter);
-            }
-        }
+        let given = answer(words, sets, queues, memory, wire, have, out, bytes);
+        *end = print(lines, *end, counter, given);
+        counter = records::next(counter);
     }
     *number = counter.number;
-    state::make_stepped(Answer::Done(0), r, map)
 }

@@ -4,8 +4,6 @@ use crate::batch::print;
 use libc::STDIN_FILENO;
 use libc::STDOUT_FILENO;
 use state::Answer;
-use state::Registers;
-use store::Page;
 ghost use mathlib.Core.Path.{_≡_};
 ghost use Prim.Native.Nat.{_-_, _%_, _≤_, _<_};
 ghost use lib.ListN.{length, take, drop};
@@ -56,15 +54,16 @@ fn cut_short(lines: &mut [u8], kept: usize, number: u64)
 
 // Every record is answered before more is waited for. The loop ends at record 2^63, which no run comes to.
 fn serve_from(
-    mut r: Registers,
-    mut map: [[Page; 8]; 24],
+    words: &mut [u16],
+    sets: &mut [u32],
+    queues: &mut [u8],
     memory: &mut [u8],
     wire: &mut [u8],
     out: &mut [u8],
     input: &mut [u8],
     lines: &mut [u8],
 )
-    requires { ⌜ Held r map (now memory) (now wire) 0 ⌝ }
+    requires { ⌜ Held (now words) (now sets) (now queues) (now memory) (now wire) 0 ⌝ }
     requires { ⌜ (length (now input) ≡ 8192) × (length (now lines) ≡ 32768) ⌝ }
 {
     let mut have = 0;
@@ -77,9 +76,10 @@ fn serve_from(
             cut_short(lines, kept, number);
             return;
         }
-        let s = answer_all(
-            r,
-            map,
+        answer_all(
+            words,
+            sets,
+            queues,
             memory,
             wire,
             &mut have,
@@ -89,8 +89,6 @@ fn serve_from(
             &mut end,
             &mut number,
         );
-        r = s.registers;
-        map = state::pages_of(s);
         if !write_lines(lines, end) {
             return;
         }
@@ -100,17 +98,22 @@ fn serve_from(
 
 // The bench, from power-up on.
 pub fn run() {
-    let s = chip::power_up();
-    let r = s.registers;
-    let map = state::pages_of(s);
+    let start = chip::power_up();
+    let registers = start.registers;
+    let pages = start.pages;
+    let fifos = start.queues;
+    let mut words = registers.words;
+    let mut sets = pages.sets;
+    let mut queues = fifos.slots;
     let mut memory = [0; 6144];
     let mut wire = [0; 2048];
     let mut out = [0; 2048];
     let mut input = [0; 8192];
     let mut lines = [0; 32768];
     serve_from(
-        r,
-        map,
+        &mut words,
+        &mut sets,
+        &mut queues,
         &mut memory,
         &mut wire,
         &mut out,

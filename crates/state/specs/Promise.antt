@@ -1,35 +1,81 @@
--- What an entry of the chip promises, for any input: document 01's step where the record is in order, else refusal 16.
-use mathlib.Core.Path.{_≡_}
-use mathlib.Core.List.{List}
+-- What a step over the lent state promises.
+use mathlib.Core.Path.{_≡_, refl, ap, sym, subst, _∙_}
+use mathlib.Core.List.{List, []}
 use Prim.Native.Nat.{ℕ}
 use lib.ListN.{length}
-use Rattle.rules.specs.Answers.{Turn}
-use Rattle.rules.specs.Step.{Input, step}
-use Rattle.store.specs.declared.Page.{Page}
-use Rattle.state.specs.declared.Registers.{Registers}
-use Rattle.state.specs.declared.Stepped.{Stepped}
-use Rattle.state.specs.declared.Answer.the-variants.{Damaged}
-use Rattle.state.specs.View.{view, replyOf, Ready}
+use Rattle.rules.specs.Chip.{Registers, Chip}
+use Rattle.rules.specs.Answers.{Effect, did}
+use Rattle.rules.specs.Fields.{inRegisters}
+use Rattle.rules.specs.WellFormed.{Formed}
+use Rattle.queues.specs.Slots.{Slots}
+use Rattle.queues.specs.Parts.{slots}
+use Rattle.state.specs.declared.Answer.{Answer}
+use Rattle.state.specs.declared.Answer.the-variants.{Done}
+use Rattle.state.specs.Meaning.{replyOf}
+use Rattle.state.specs.View.{word, registersIn, counts, queueIn, poolIn, view, Kept}
 
--- a canonical record of a well-formed chip, beside its 6,144 bytes
-pub record InOrder (r : Registers) (m : List (List Page)) (mem : List ℕ) : Type 0 where
-  pub ready : Ready r m
-  pub full : length mem ≡ 6144
+-- 72 bytes of queues: each has its entries, and 0 behind them
+pub record QueuesIn (c q : List ℕ) : Type 0 where
+  pub long : length q ≡ 72
+  pub rx : Slots (slots 0 q) (word c 0) (queueIn 0 (word c 0) q)
+  pub tx : Slots (slots 1 q) (word c 1) (queueIn 1 (word c 1) q)
+  pub completion : Slots (slots 2 q) (word c 2) (queueIn 2 (word c 2) q)
 
--- x is returned, and memory and output are then these: the turn t of the rules, on a record that is in order again
-pub record Right (t : Turn) (x : Stepped) (mem out : List ℕ) : Type 0 where
-  pub chip : view (x .registers) (x .pages) mem ≡ t .chip
-  pub reply : replyOf (x .answer) ≡ t .reply
-  pub output : out ≡ t .output
-  pub ready : InOrder (x .registers) (x .pages) mem
+-- the state is laid out as it must be: one state for each chip
+pub record Sound (w s q : List ℕ) : Type 0 where
+  pub kept : Kept w
+  pub queues : QueuesIn (counts w) q
+  pub sets : length s ≡ 24
 
--- refusal 16, and nothing changes
-pub record Broken (r : Registers) (m : List (List Page)) (mem out : List ℕ) (x : Stepped) (mem′ out′ : List ℕ) : Type 0 where
-  pub same : x ≡ record { answer = Damaged; registers = r; pages = m }
-  pub memory : mem′ ≡ mem
-  pub output : out′ ≡ out
+-- and it stands for a well-formed chip, whatever its memory
+pub record Ready (w s q : List ℕ) : Type 0 where
+  pub sound : Sound w s q
+  pub well : Formed 24 (registersIn w) (poolIn (counts w) s q)
 
--- the promise of a public entry: on registers r, page map m, memory mem and output buffer out it returns x, and leaves memory mem′ and output out′
-pub record Answers (i : Input) (r : Registers) (m : List (List Page)) (mem out : List ℕ) (x : Stepped) (mem′ out′ : List ℕ) : Type 0 where
-  pub done : InOrder r m mem → Right (step i (view r m mem) out) x mem′ out′
-  pub broken : (InOrder r m mem → ⊥) → Broken r m mem out x mem′ out′
+-- the answer a, and the state after it, are the effect e of the rules
+pub record Makes (e : Effect) (a : Answer) (w s q mem : List ℕ) : Type 0 where
+  pub chip : view w s q mem ≡ e .chip
+  pub reply : replyOf a ≡ e .reply
+  pub sound : Sound w s q
+
+-- A change of the registers alone: from the words w to w′.
+pub record Sets (f : Registers → Registers) (w w′ : List ℕ) : Type 0 where
+  pub regs : registersIn w′ ≡ f (registersIn w)
+  pub still : counts w′ ≡ counts w
+  pub kept : Kept w′
+
+pub sets-nothing : (w : List ℕ) → Kept w → Sets (λ r. r) w w
+sets-nothing w k = record { regs = refl; still = refl; kept = k }
+
+-- one after another
+pub sets-both : {f g : Registers → Registers} {w w′ w″ : List ℕ} → Sets f w w′ → Sets g w′ w″ → Sets (λ r. g (f r)) w w″
+sets-both {f} {g} a b = record { regs = b .regs ∙ ap g (a .regs); still = b .still ∙ a .still; kept = b .kept }
+
+-- the same change in other words
+pub sets-as : {f g : Registers → Registers} {w w′ : List ℕ} → Sets f w w′ → f (registersIn w) ≡ g (registersIn w) → Sets g w w′
+sets-as a e = record { regs = a .regs ∙ e; still = a .still; kept = a .kept }
+
+-- the chip after it, beside any page sets, queues and memory; and the state is sound
+pub sets-chip : {f : Registers → Registers} {w w′ : List ℕ} → Sets f w w′ → (s q mem : List ℕ) → view w′ s q mem ≡ inRegisters f (view w s q mem)
+sets-chip {f} {w} {w′} a s q mem =
+    ap (λ (r : Registers). record { regs = r; pool = poolIn (counts w′) s q; memory = mem }) (a .regs)
+    ∙ ap (λ (c : List ℕ). record { regs = f (registersIn w); pool = poolIn c s q; memory = mem }) (a .still)
+
+pub sets-sound : {f : Registers → Registers} {w w′ s q : List ℕ} → Sets f w w′ → Sound w s q → Sound w′ s q
+sets-sound {f} {w} {w′} {s} {q} a o = record { kept = a .kept; queues = subst (λ (c : List ℕ). QueuesIn c q) (sym (a .still)) (o .queues); sets = o .sets }
+
+-- A step that looks at the registers alone, and changes no more.
+pub record Does (f : Chip → Effect) (w : List ℕ) (a : Answer) (w′ : List ℕ) : Type 0 where
+  pub step : (s q mem : List ℕ) → record { reply = replyOf a; chip = view w′ s q mem } ≡ f (view w s q mem)
+  pub still : counts w′ ≡ counts w
+  pub kept : Kept w′
+
+pub does-sets : {f : Registers → Registers} {w w′ : List ℕ} → Sets f w w′ → Does (λ c. did (inRegisters f c)) w (Done 0) w′
+does-sets a = record { step = λ s q mem. ap did (sets-chip a s q mem); still = a .still; kept = a .kept }
+
+pub does-makes : {f : Chip → Effect} {w w′ s q : List ℕ} {a : Answer} → Does f w a w′ → Sound w s q → (mem : List ℕ) → Makes (f (view w s q mem)) a w′ s q mem
+does-makes {f} {w} {w′} {s} {q} d o mem = record {
+  chip = ap (λ (e : Effect). e .chip) (d .step s q mem);
+  reply = ap (λ (e : Effect). e .reply) (d .step s q mem);
+  sound = record { kept = d .kept; queues = subst (λ (c : List ℕ). QueuesIn c q) (sym (d .still)) (o .queues); sets = o .sets };
+}

@@ -1,82 +1,87 @@
--- What the registers and the page map stand for: the chip of `rules`; and what a step promises.
+-- What the lent state stands for: 32 words of registers, 24 page sets, and 72 bytes of queues, RX, TX and completion of 24 each.
 use mathlib.Core.Path.{_≡_}
-use mathlib.Core.List.{List, []}
-use Prim.Native.Nat.{ℕ}
-use Rattle.rules.specs.Chip as rules
-use Rattle.rules.specs.Chip.{Chip, Pool}
-use Rattle.rules.specs.Answers.{Reply, Effect}
-use Rattle.rules.specs.WellFormed.{WellFormed}
-use Rattle.store.specs.declared.Page.{Page}
-use Rattle.store.specs.declared.Queue.{Queue}
-use Rattle.store.specs.Views.{pagesOf, entries, SoundMap, SoundQueue}
-use Rattle.state.specs.declared.Registers.{Registers}
-use Rattle.state.specs.declared.Stepped.{Stepped}
-use Rattle.state.specs.declared.Touched.{Touched}
-use Rattle.state.specs.declared.Answer.{Answer}
-use Rattle.state.specs.declared.Answer.the-variants.{Done, Misplaced, NotModelled, ReadOnly, Reserved, NotAllocated, StillQueued, RxEmpty, AgainstRead, OddPointer, PastPages, OutsideLimits, NothingToSend, BadCount, CompletionFull, ShortOutput, Damaged, CutShort}
+use mathlib.Core.List.{List, [], _∷_, map}
+use Prim.Native.Nat.{ℕ, _+_, _*_, _/_, _%_}
+use lib.ListN.{length, getD, take}
+use Rattle.rules.specs.Bits.{bit, flag}
+use Rattle.rules.specs.Chip.{Registers, Pool, Chip}
+use Rattle.sets.specs.Views.{pagesOf}
+use Rattle.queues.specs.Parts.{slots}
 
-abbrev pub registersOf : Registers → rules.Registers
-registersOf r = record {
-  sending = record { tcr = r .tcr; ephsr = r .ephsr; ecr = r .ecr; txEmpty = r .txempty };
-  receiving = record { rcr = r .rcr; reserved = r .reserved; station = r .station; table = r .table; overrun = r .overrun };
-  numbers = record { bank = r .bank; packet = r .packet; result = r .result };
-  pointer = r .pointer;
-  control = r .control;
-  mask = r .mask;
+abbrev pub word : List ℕ → ℕ → ℕ
+word w i = getD w i 0
+
+-- the bytes of a word, lower first, and of some words
+abbrev pub bytes : ℕ → List ℕ → List ℕ
+bytes x rest = x % 256 ∷ x / 256 ∷ rest
+
+abbrev pub registersIn : List ℕ → Registers
+registersIn w = record {
+  sending = record { tcr = word w 0; ephsr = word w 1; ecr = word w 3; txEmpty = bit 2 (word w 13) };
+  receiving = record {
+    rcr = word w 2;
+    reserved = word w 5 % 256;
+    station = bytes (word w 10) (bytes (word w 11) (bytes (word w 12) []));
+    table = bytes (word w 24) (bytes (word w 25) (bytes (word w 26) (bytes (word w 27) [])));
+    overrun = bit 4 (word w 13);
+  };
+  numbers = record { bank = word w 7 % 256; packet = word w 17 % 256; result = word w 17 / 256 };
+  pointer = word w 19;
+  control = word w 14;
+  mask = word w 22 / 256;
 }
 
-abbrev pub poolOf : Registers → List (List Page) → Pool
-poolOf r m = record { pages = pagesOf m; rx = entries (r .rx); tx = entries (r .tx); completion = entries (r .done) }
+-- how many entries RX, TX and completion have
+abbrev pub counts : List ℕ → List ℕ
+counts w = word w 6 ∷ word w 8 ∷ word w 9 ∷ []
 
--- registers, page map and memory
-abbrev pub view : Registers → List (List Page) → List ℕ → Chip
-view r m mem = record { regs = registersOf r; pool = poolOf r m; memory = mem }
+-- the entries of queue k: the first `count` of its 24 bytes
+abbrev pub queueIn : ℕ → ℕ → List ℕ → List ℕ
+queueIn k count q = take count (slots k q)
 
--- document 01's number and value of an answer
-abbrev pub refused : ℕ → Reply
-refused n = record { number = n; value = 0 }
+-- by the counts c, the page sets s and the queues' bytes q
+abbrev pub poolIn : List ℕ → List ℕ → List ℕ → Pool
+poolIn c s q = record { pages = map pagesOf s; rx = queueIn 0 (word c 0) q; tx = queueIn 1 (word c 1) q; completion = queueIn 2 (word c 2) q }
 
-abbrev pub replyOf : Answer → Reply
-replyOf (Done v) = record { number = 0; value = v }
-replyOf Misplaced = refused 1
-replyOf NotModelled = refused 2
-replyOf ReadOnly = refused 3
-replyOf Reserved = refused 4
-replyOf NotAllocated = refused 5
-replyOf StillQueued = refused 6
-replyOf RxEmpty = refused 7
-replyOf AgainstRead = refused 8
-replyOf OddPointer = refused 9
-replyOf PastPages = refused 10
-replyOf OutsideLimits = refused 11
-replyOf NothingToSend = refused 12
-replyOf BadCount = refused 13
-replyOf CompletionFull = refused 14
-replyOf ShortOutput = refused 15
-replyOf Damaged = refused 16
-replyOf CutShort = refused 17
+-- words, page sets, queues and memory
+abbrev pub view : List ℕ → List ℕ → List ℕ → List ℕ → Chip
+view w s q mem = record { regs = registersIn w; pool = poolIn (counts w) s q; memory = mem }
 
--- the queues are as their entries have them made
-pub record SoundQueues (a b c : Queue) : Type 0 where
-  pub rx : SoundQueue a
-  pub tx : SoundQueue b
-  pub done : SoundQueue c
+-- TX EMPTY and RX_OVRN stand at their bits of interrupt status, and no other bit is set
+abbrev pub Latches : ℕ → Type 0
+Latches x = x ≡ 4 * flag (bit 2 x) + 16 * flag (bit 4 x)
 
--- a canonical record of a well-formed chip (of which the memory's bytes are no part)
-pub record Ready (r : Registers) (m : List (List Page)) : Type 0 where
-  pub queues : SoundQueues (r .rx) (r .tx) (r .done)
-  pub map : SoundMap m
-  pub well : WellFormed (view r m [])
+-- the bits and bytes of a register's word that are fixed: over the words and not over the file, so that a store elsewhere leaves it as it stands
+pub record Fixed (bank reserved latches mask : ℕ) : Type 0 where
+  -- 33h, and a bank of 0 to 7
+  pub bankHigh : bank / 8 ≡ 0x660
+  -- 33h
+  pub reservedHigh : reserved / 256 ≡ 0x33
+  pub latched : Latches latches
+  pub maskLow : mask % 256 ≡ 0
 
--- what is returned, with the memory then, is what the rules say, and canonical
-pub record Makes (s : Effect) (mem : List ℕ) (x : Stepped) : Type 0 where
-  pub chip : view (x .registers) (x .pages) mem ≡ s .chip
-  pub reply : replyOf (x .answer) ≡ s .reply
-  pub queues : SoundQueues (x .registers .rx) (x .registers .tx) (x .registers .done)
-  pub map : SoundMap (x .pages)
+abbrev pub FixedIn : List ℕ → Type 0
+FixedIn w = Fixed (word w 7) (word w 5) (word w 13) (word w 22)
 
--- the same of a step that leaves the page map
-pub record Touches (s : Effect) (m : List (List Page)) (mem : List ℕ) (x : Touched) : Type 0 where
-  pub chip : view (x .registers) m mem ≡ s .chip
-  pub reply : replyOf (x .answer) ≡ s .reply
-  pub queues : SoundQueues (x .registers .rx) (x .registers .tx) (x .registers .done)
+-- and the words that hold nothing: those of MIR, command and heads, which a read finds, and those of no register, queue or latch
+pub record Blank (w4 w15 w16 w18 w20 w21 w23 w28 w29 w30 w31 : ℕ) : Type 0 where
+  pub none4 : w4 ≡ 0
+  pub none15 : w15 ≡ 0
+  pub none16 : w16 ≡ 0
+  pub none18 : w18 ≡ 0
+  pub none20 : w20 ≡ 0
+  pub none21 : w21 ≡ 0
+  pub none23 : w23 ≡ 0
+  pub none28 : w28 ≡ 0
+  pub none29 : w29 ≡ 0
+  pub none30 : w30 ≡ 0
+  pub none31 : w31 ≡ 0
+
+abbrev pub BlankIn : List ℕ → Type 0
+BlankIn w = Blank (word w 4) (word w 15) (word w 16) (word w 18) (word w 20) (word w 21) (word w 23) (word w 28) (word w 29) (word w 30) (word w 31)
+
+-- 32 words, with the fixed bytes as they must be
+pub record Kept (w : List ℕ) : Type 0 where
+  pub whole : length w ≡ 32
+  pub fixed : FixedIn w
+  pub blank : BlankIn w

@@ -1,29 +1,57 @@
-// The chip's registers, what a step answers, and what it returns.
-use store::Page;
-use store::Queue;
-ghost use mathlib.Core.Path.{_≡_};
-ghost use Rattle.state.specs.View.{replyOf};
+// The lent state: 32 words of registers, 24 page sets, and 72 bytes of queues. What a step answers, and which bytes of a word an access reaches.
+mod bytes; // bytes.rt: the bytes of a word that an access reads or writes
+pub mod flags; // flags.rt: the bits of the words, by the data sheet's names
+mod places; // places.rt: which word is which register, and where the queues stand
 
-// Document 01's registers by bank, the two latches, and the three FIFOs.
-pub struct Registers {
-    pub tcr: u16,
-    pub ephsr: u16,
-    pub rcr: u16,
-    pub ecr: u16,
-    pub reserved: u8,
-    pub station: [u8; 6],
-    pub control: u16,
-    pub packet: u8,
-    pub result: u8,
-    pub pointer: u16,
-    pub mask: u8,
-    pub table: [u8; 8],
-    pub bank: u8,
-    pub txempty: bool,
-    pub overrun: bool,
-    pub rx: Queue,
-    pub tx: Queue,
-    pub done: Queue,
+pub use bytes::is_high;
+pub use bytes::merged;
+pub use bytes::misplaced;
+pub use bytes::taken;
+pub use places::BANK;
+pub use places::COMMAND;
+pub use places::COMPLETION;
+pub use places::COMPLETION_COUNT;
+pub use places::CONTROL;
+pub use places::ECR;
+pub use places::EPHSR;
+pub use places::HEADS;
+pub use places::INTERRUPT;
+pub use places::LATCHES;
+pub use places::MIR;
+pub use places::PACKET;
+pub use places::POINTER;
+pub use places::QUEUES_END;
+pub use places::RCR;
+pub use places::RESERVED;
+pub use places::RX;
+pub use places::RX_COUNT;
+pub use places::STATION;
+pub use places::STATION_1;
+pub use places::STATION_2;
+pub use places::TABLE;
+pub use places::TABLE_1;
+pub use places::TABLE_2;
+pub use places::TABLE_3;
+pub use places::TCR;
+pub use places::TX;
+pub use places::TX_COUNT;
+ghost use mathlib.Core.Path.{_≡_};
+ghost use Rattle.state.specs.Meaning.{replyOf};
+
+// The memory: so many pages, and the bytes of one.
+pub const PAGES: u8 = 24;
+
+pub const PAGE_BYTES: u32 = 256;
+
+// Packet numbers are below this, and a queue has room for all of them.
+pub const PACKETS: u8 = 24;
+
+// What the allocation result and the heads of queues are where there is no packet: bit 7 (FAILED, EMPTY) alone.
+pub const NO_PACKET: u8 = 0x80;
+
+pub enum Width {
+    Byte,
+    Word,
 }
 
 // The answers; `replyOf` gives document 01's number and value of each.
@@ -77,31 +105,22 @@ pub fn printed(answer: Answer) -> Shown
     }
 }
 
-// What a step that leaves the page map returns.
-pub struct Touched {
+// What the public entries take by value and give back; the steps below them borrow what is in them.
+pub struct Registers {
+    pub words: [u16; 32],
+}
+
+pub struct Pages {
+    pub sets: [u32; 24],
+}
+
+pub struct Queues {
+    pub slots: [u8; 72],
+}
+
+pub struct Returned {
     pub answer: Answer,
     pub registers: Registers,
-}
-
-// What a step returns. The page map is a field, so it is made and read by two functions alone, whose proofs are walks by hand.
-pub struct Stepped {
-    pub answer: Answer,
-    pub registers: Registers,
-    pub pages: [[Page; 8]; 24],
-}
-
-pub fn make_stepped(answer: Answer, registers: Registers, pages: [[Page; 8]; 24]) -> Stepped
-    ensures { λ r. ⌜ r ≡ record { answer = answer; registers = registers; pages = pages } ⌝ }
-{
-    Stepped {
-        answer: answer,
-        registers: registers,
-        pages: pages,
-    }
-}
-
-pub fn pages_of(s: Stepped) -> [[Page; 8]; 24]
-    ensures { λ r. ⌜ r ≡ s .pages ⌝ }
-{
-    s.pages
+    pub pages: Pages,
+    pub queues: Queues,
 }

@@ -1,24 +1,23 @@
-use borrow.Author.Needs.{needs}
-use mathlib.Core.Path.{refl, ap}
-use mathlib.Core.List.{List, []}
-use Prim.Native.Nat.{ℕ}
+-- One queue after the other.
+use mathlib.Core.Path.{refl}
+use mathlib.Core.List.{[]}
 use Rattle.rules.specs.Fields.{setTx, setCompletion, inPool}
 use Rattle.rules.specs.Mmu as rules
 use Rattle.rules.specs.Mmu.{perform}
-use Rattle.state.specs.View.{view}
+use Rattle.pool.specs.Queues.{rejoins-both, rejoins-chip, rejoins-sound}
 use Rattle.commands.proofs.Returns.{performs}
+use borrow.Author.Needs.{needs}
 use Rattle.commands.proofs.do_reset_tx.Statement.{statement}
 use Rattle.commands.proofs.do_reset_tx.Tie as tie
 
 returns : tie.Need-returns
 unfolding perform
-returns c =
-    let s = c .before .before in
-    let e = c .before .empty-queue .ensures in
-    performs rules.resetTx (s .args .r) (s .args .map) (inPool (λ q. setCompletion [] (setTx [] q))) _ _ _
-    (λ mem. refl)
-    (λ mem. ap (λ (l : List ℕ). inPool (λ q. setCompletion l (setTx l q)) (view (s .args .r) (s .args .map) mem)) (e .0))
-    (record { rx = s .pre .queues .rx; tx = e .1; done = e .1 }) (s .pre .map) (c .make-stepped .ensures)
+returns c = λ s long mem.
+    let a = c .before .before .before .before .before .before .before .before .before .before .before .before .before .before .before .before .args in
+    let both = rejoins-both (c .before .before .before .before .before .before .before .before .before .before .before .empty-tx .ensures) (c .before .before .before .before .empty-completion .ensures) in
+    performs rules.resetTx (a .words .now) s (a .queues .now) mem (inPool (λ p. setCompletion [] (setTx [] p))) refl (rejoins-chip both s mem) (rejoins-sound both long)
 
 pub do-reset-tx-spec : {M : Type 1} → statement M
-do-reset-tx-spec = tie.close (tie.spec (λ c κs. search needs) (λ c κs. search needs) returns)
+do-reset-tx-spec =
+    tie.close
+    (tie.spec (λ c κs. search needs) (λ c κs. search needs) (λ c. search needs) (λ c. search needs) returns)

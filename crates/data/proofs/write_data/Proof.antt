@@ -1,63 +1,63 @@
+-- What the gate says, and behind it what the write of a byte or of a word promises.
 use borrow.Author.Needs.{needs}
-use mathlib.Core.Path.{refl, ap, ap₂, _∙_}
-use mathlib.Core.Bool.{false}
-use mathlib.Core.List.{List}
-use Prim.Native.Nat.{ℕ}
+use mathlib.Core.Path.{_≡_, subst}
+use mathlib.Core.Bool.{Bool, true, false}
+use Prim.Native.Nat.{ℕ, _<_}
+use native.Mathlib.Omega.{arith}
 use lib.ListN.{length}
-use Rattle.rules.specs.Fields.{setPointer, inRegisters}
-use Rattle.rules.specs.Data.{address, next, writeData}
-use Rattle.state.specs.View.{view}
-use Rattle.data.specs.Access.{bytesFor}
-use Rattle.data.proofs.Facts.{width-bytes}
-use Rattle.data.proofs.Gates.{Checked, checked-is, refuses, goes, room}
+use Rattle.rules.specs.Data.{writeData}
+use Rattle.state.specs.View.{word}
+use Rattle.data.specs.declared.Gate.{Gate}
+use Rattle.data.specs.declared.Gate.the-variants.{Open}
+use Rattle.data.specs.Access.{bytesFor, pagesMeant, Guards, Room}
+use Rattle.data.proofs.Gates.{room, stopped, passed}
 use Rattle.data.proofs.write_data.Statement.{statement}
 use Rattle.data.proofs.write_data.Tie as tie
 
--- the row is that of the packet that is meant, and checked
-known : (k : tie.After-checked) → let s = k .before .before .before .before .before in
-    Checked (s .args .r) (s .args .map) false (length (bytesFor (s .args .wide) (s .args .value))) (k .before .row-of .result) (k .checked .result)
-known k =
-    let m = k .before .before in
-    let s = m .before .before .before in
-    checked-is (s .pre .0) (k .before .row-of .ensures .0) (m .meant .ensures) (rw (← width-bytes (s .args .wide) (s .args .value)) (k .checked .ensures))
+abbrev begin : tie.After-gate-of → tie.Start
+begin g = g .before .before .before .before .before .before
 
-put-requires : tie.Need-put-requires
-unfolding address
-put-requires c κs =
-    let k = c .before .before .before in
-    let s = k .before .before .before .before .before in
-    rw (width-bytes (s .args .wide) (s .args .value)) (room (known k) _ (c .before .enum-told .given .1) (s .pre .1))
+-- what the gate says, once it is told
+guards : (g : tie.After-gate-of) {x : Gate} → g .gate-of .result ≡ x → let a = begin g .args in
+    Guards false (word (a .words .now) 19) (pagesMeant (a .words .now) (a .sets .now) (a .queues .now)) x
+guards g e = let a = begin g .args in subst (Guards false (word (a .words .now) 19) (pagesMeant (a .words .now) (a .sets .now) (a .queues .now))) e (g .gate-of .ensures)
+
+some-bytes : (wide : Bool) (v : ℕ) → 0 < length (bytesFor wide v)
+some-bytes true v = omega arith
+some-bytes false v = omega arith
+
+fits : (g : tie.After-gate-of) {i rest : ℕ} → g .gate-of .result ≡ Open i rest → let a = begin g .args in Room (a .words .now) (a .memory .now) i rest
+fits g e = let s = begin g in room (s .pre .0) (s .args .memory .now) (s .pre .1) (guards g e .0)
 
 returns : tie.Need-returns
 unfolding writeData
-returns c = let k = c .before .before .before in refuses (known k) _ _ (c .before .gate .given .1) _
+returns c =
+    let g = c .before .before .before in
+    let s = begin g in
+    stopped (s .pre .0) (s .args .memory .now) false _ _ _ (guards g (c .before .gate .given .1)) (some-bytes (s .args .wide) (s .args .value))
 
+-- the width is told
 returns-2 : tie.Need-returns-2
-unfolding writeData address
+unfolding writeData
 returns-2 c =
-    let u = c .before .before .before in
-    let t = u .before .before in
-    let k = t .before .before in
-    let s = k .before .before .before .before .before in
-    let p = c .next-pointer .ensures ∙ ap (λ (w : ℕ). next w (s .args .r .pointer)) (width-bytes (s .args .wide) (s .args .value)) in
-    goes (known k) _ (t .enum-told .given .1) _ _ _
-    (record {
-      chip = ap₂ (λ (p : ℕ) (m : List ℕ). inRegisters (setPointer p) (view (s .args .r) (s .args .map) m)) p (u .put .ensures);
-      reply = refl;
-      queues = s .pre .0 .queues;
-    })
+    let r = c .before .before .before .before in
+    let e = r .before .before .before in
+    let t = e .before .before in
+    let g = t .before .before in
+    let s = begin g in
+    let h = guards g (t .gate2 .given .1) in
+    rw (e .if1 .taken) (passed (s .pre .0) (s .args .memory .now) false 2 _ h (r .write-word .ensures .0 _ _ _ (h .0) (s .pre .0 .sound)))
+
+returns-3 : tie.Need-returns-3
+unfolding writeData
+returns-3 c =
+    let r = c .before .before .before .before in
+    let e = r .before .before .before in
+    let t = e .before .before in
+    let g = t .before .before in
+    let s = begin g in
+    let h = guards g (t .gate2 .given .1) in
+    rw (e .if1 .left) (passed (s .pre .0) (s .args .memory .now) false 1 _ h (r .write-byte .ensures .0 _ _ _ (h .0) (s .pre .0 .sound)))
 
 pub write-data-spec : {M : Type 1} → statement M
-write-data-spec =
-    tie.close
-    (tie.spec
-    (λ c κs. search needs)
-    (λ c κs. search needs)
-    (λ c κs. c .row-of .ensures .1 (c .before .before .before .before .pre .0 .map))
-    (λ c. search needs)
-    (λ c. search needs)
-    put-requires
-    (λ c κs. search needs)
-    returns
-    (λ c. search needs)
-    returns-2)
+write-data-spec = tie.close (tie.spec (λ c κs. search needs) (λ c. search needs) (λ c. search needs) (λ c κs. let t = c .before .before .before .before in fits (t .before .before) (t .gate2 .given .1)) (λ c κs. let t = c .before .before .before .before in fits (t .before .before) (t .gate2 .given .1)) (λ c. search needs) returns (λ c. search needs) (λ c. search needs) returns-2 (λ c. search needs) (λ c. search needs) returns-3)

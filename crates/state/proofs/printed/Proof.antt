@@ -1,7 +1,8 @@
+-- Arm by arm: the answer at hand is the arm's, and its number and value are those of `replyOf`.
 use mathlib.Core.Path.{_≡_, sym, ap}
 use borrow.Author.Needs.{needs}
 use Rattle.state.specs.declared.Answer.{Answer}
-use Rattle.state.specs.View.{replyOf}
+use Rattle.state.specs.Meaning.{replyOf}
 use Rattle.state.proofs.printed.Statement.{statement}
 use Rattle.state.proofs.printed.Tie as tie
 

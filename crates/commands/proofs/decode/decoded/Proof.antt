@@ -1,3 +1,4 @@
+-- Each key computes; the rest by which values are left.
 use borrow.Author.Needs.{needs}
 use mathlib.Core.Path.{sym, ap}
 use native.Mathlib.Omega.{arith}

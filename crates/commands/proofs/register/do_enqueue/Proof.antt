@@ -1,68 +1,86 @@
-use borrow.Author.Needs.{needs}
-use mathlib.Core.Path.{ap, _∙_}
-use mathlib.Core.List.{List, [], _∷_, _++_}
-use Prim.Native.Nat.{ℕ, _<_}
+-- Refusal 5, refusal 6, or the packet joins TX.
+use mathlib.Core.Path.{_≡_, ap, sym, _∙_}
+use mathlib.Core.Bool.{true}
+use mathlib.Core.List.{[], _∷_, _++_, map}
+use Prim.Native.Nat.{ℕ}
 use native.Mathlib.Omega.{arith}
-use lib.ListN.{length}
-use Rattle.rules.specs.Lists.{member}
+use borrow.Author.Tests.{not-true, not-false}
+use lib.ListN.{getD}
+use Rattle.rules.specs.Lists.{some?}
+use Rattle.rules.specs.Chip.{Chip}
 use Rattle.rules.specs.Answers.{did}
 use Rattle.rules.specs.Fields.{setTx, inPool}
 use Rattle.rules.specs.Mmu as rules
-use Rattle.lists.specs.Facts.{or-right}
-use Rattle.store.specs.Views.{entries}
-use Rattle.store.proofs.Facts.{entries-length}
-use Rattle.state.specs.View.{view}
-use Rattle.commands.proofs.Steps.{idle-done, enqueues, tx-room}
-use Rattle.commands.proofs.Returns.{told, performs, refuses-5, refuses-6}
+use Rattle.sets.specs.Views.{pagesOf}
+use Rattle.state.specs.View.{word, queueIn, view}
+use Rattle.pool.specs.Queues.{rejoins-chip, rejoins-sound}
+use Rattle.commands.proofs.Steps.{enqueues, tx-room}
+use Rattle.commands.proofs.Returns.{performs, refuses-5, refuses-6, goes-ahead}
+use borrow.Author.Needs.{needs}
 use Rattle.commands.proofs.register.do_enqueue.Statement.{statement}
 use Rattle.commands.proofs.register.do_enqueue.Tie as tie
 
-push-requires : tie.Need-push-requires
-push-requires c κs =
-    let d = c .before .before .before in
-    let s = d .before in
-    let r = s .args .r in
-    let i = told (s .args .r) (s .args .map) (c .before .enum-told3 .given .1) (d .register-idle .ensures) in
-    let q = s .pre .queues .tx in
-    let room : length (entries (r .tx)) < 24 =
-    tx-room (view r (s .args .map) []) (s .pre .well) (r .packet) (i .0) (or-right (member (r .packet) (entries (r .rx))) (member (r .packet) (entries (r .tx))) (i .1)) in
-    (omega (arith, room, entries-length (r .tx) q), q)
+-- what it does where it is not refused
+abbrev after : Chip → Chip
+after x = inPool (setTx (x .pool .tx ++ (x .regs .numbers .packet ∷ []))) x
+
+-- the packet has pages
+there : (c : tie.Else1) → some? (getD (map pagesOf (c .before .before .before .before .before .before .before .args .sets .now)) (c .before .before .named .result .0) []) ≡ true
+there c = sym (c .before .is-allocated .ensures) ∙ not-false _ (c .if1 .left)
 
 returns : tie.Need-returns
 returns c =
-    let d = c .before .before .before in
-    refuses-5 rules.enqueue _ _ (λ x. did (inPool (setTx (x .pool .tx ++ (x .regs .numbers .packet ∷ []))) x)) enqueues _ (d .before .pre)
-    (c .before .enum-told .given .1) (d .register-idle .ensures) (c .make-stepped .ensures)
+    let a = c .before in
+    let n = a .before in
+    refuses-5 rules.enqueue (λ x. did (after x)) enqueues _ _ _ _ (n .named .ensures) (n .before .before .before .before .before .pre .sound) (sym (a .is-allocated .ensures) ∙ not-true _ (c .if1 .taken))
 
 returns-2 : tie.Need-returns-2
 returns-2 c =
-    let d = c .before .before .before in
-    refuses-6 rules.enqueue _ _ (λ x. did (inPool (setTx (x .pool .tx ++ (x .regs .numbers .packet ∷ []))) x)) enqueues _ (d .before .pre)
-    (c .before .enum-told2 .given .1) (d .register-idle .ensures) (c .make-stepped2 .ensures)
+    let i = c .before in
+    let e = i .before .before .before in
+    let n = e .before .before in
+    refuses-6 rules.enqueue (λ x. did (after x)) enqueues _ _ _ _ (n .named .ensures) (n .before .before .before .before .before .pre .sound) (there e) (i .is-queued .ensures) (c .if2 .taken)
+
+join-tx-requires : tie.Need-join-tx-requires
+join-tx-requires c κs =
+    let f = c .before .before in
+    let i = f .before in
+    let e = i .before .before .before in
+    let n = e .before .before in
+    let s = n .before .before .before .before .before in
+    let v = view (s .args .words .now) (s .args .sets .now) (s .args .queues .now) [] in
+    let room = tx-room v (s .pre .well) (n .named .result .0) (there e) (i .is-queued .ensures) (f .if2 .left) in
+    (s .pre .sound .kept, s .pre .sound .queues, omega (arith, room, s .pre .sound .queues .tx .many))
 
 returns-3 : tie.Need-returns-3
-returns-3 c =
-    let d = c .before .before .before .before .before in
-    let s = d .before in
-    let v = view (s .args .r) (s .args .map) in
-    let i = told (s .args .r) (s .args .map) (c .before .before .before .enum-told3 .given .1) (d .register-idle .ensures) in
-    let e = c .before .push .ensures in
-    performs rules.enqueue (s .args .r) (s .args .map) (λ x. inPool (setTx (x .pool .tx ++ (x .regs .numbers .packet ∷ []))) x) _ _ _
-    (λ mem. enqueues (v mem) ∙ idle-done (v mem) _ (i .0) (i .1)) (λ mem. ap (λ (l : List ℕ). inPool (setTx l) (v mem)) (e .0))
-    (record { rx = s .pre .queues .rx; tx = e .1; done = s .pre .queues .done }) (s .pre .map) (c .make-stepped3 .ensures)
+returns-3 c = λ mem.
+    let j = c .before .before .before .before in
+    let f = j .before .before .before in
+    let i = f .before in
+    let e = i .before .before .before in
+    let n = e .before .before in
+    let s = n .before .before .before .before .before in
+    let w = s .args .words .now in
+    let ss = s .args .sets .now in
+    let q = s .args .queues .now in
+    performs rules.enqueue w ss q mem after
+    (goes-ahead rules.enqueue (λ x. did (after x)) enqueues w ss q _ (n .named .ensures) (there e) (i .is-queued .ensures) (f .if2 .left) mem)
+    (rejoins-chip (j .join-tx .ensures) ss mem ∙ ap (λ (k : ℕ). inPool (setTx (queueIn 1 (word w 8) q ++ (k ∷ []))) (view w ss q mem)) (n .named .ensures))
+    (rejoins-sound (j .join-tx .ensures) (s .pre .sound .sets))
 
 pub do-enqueue-spec : {M : Type 1} → statement M
 do-enqueue-spec =
     tie.close
     (tie.spec
     (λ c κs. search needs)
-    (λ c. search needs)
     (λ c κs. search needs)
     (λ c. search needs)
-    (λ c κs. search needs)
-    (λ c. search needs)
-    push-requires
-    (λ c κs. search needs)
     returns
+    (λ c κs. search needs)
+    (λ c. search needs)
+    (λ c. search needs)
     returns-2
+    join-tx-requires
+    (λ c. search needs)
+    (λ c. search needs)
     returns-3)

@@ -1,59 +1,69 @@
-use borrow.Author.Needs.{needs}
-use mathlib.Core.Path.{ap, ap₂, _∙_}
-use mathlib.Core.List.{List, []}
+-- RX is empty, or its head leaves and its pages are free.
+use mathlib.Core.Path.{_≡_, ap, sym, _∙_}
+use mathlib.Core.List.{[], map}
 use Prim.Native.Nat.{ℕ, _<_}
 use native.Mathlib.Omega.{arith}
-use lib.ListN.{length, drop, getD, set}
+use lib.ListN.{length, drop, getD, set, length-set}
 use Rattle.rules.specs.Fields.{setPages, setRx, inPool}
 use Rattle.rules.specs.Mmu as rules
-use Rattle.store.specs.Views.{entries, pagesOf}
-use Rattle.store.proofs.Facts.{entries-length}
+use Rattle.sets.specs.Views.{pagesOf}
+use Rattle.sets.specs.Lists.{lists-length}
 use Rattle.state.specs.declared.Answer.the-variants as answer
-use Rattle.state.specs.View.{view}
+use Rattle.state.specs.View.{word, counts, queueIn, view}
+use Rattle.pool.specs.Queues.{rejoins-chip, rejoins-sound}
 use Rattle.commands.proofs.Steps.{releases-none, releases-head, head-small}
-use Rattle.commands.proofs.Returns.{performs, refuses}
+use Rattle.commands.proofs.Returns.{performs-paged, unchanged}
+use borrow.Author.Needs.{needs}
 use Rattle.commands.proofs.rx.do_remove_and_release.Statement.{statement}
 use Rattle.commands.proofs.rx.do_remove_and_release.Tie as tie
 
 -- RX is not empty
-some : (a : tie.After-head) → let s = a .before .before .before .before in 0 < length (entries (s .args .r .rx))
-some a =
-    let s = a .before .before .before .before in
-    omega (arith, entries-length (s .args .r .rx) (s .pre .queues .rx), a .before .if1 .left)
+some : (c : tie.Else1) → let a = c .before .before .before .before .before .args in 0 < length (queueIn 0 (word (a .words .now) 6) (a .queues .now))
+some c = let s = c .before .before .before .before .before in omega (arith, s .pre .sound .queues .rx .many, c .if1 .left)
+
+headed : (c : tie.After-rx-head) → let a = c .before .before .before .before .before .before .before .args in c .rx-head .result .0 ≡ getD (queueIn 0 (word (a .words .now) 6) (a .queues .now)) 0 0
+headed c = let e = c .before .before in let s = e .before .before .before .before .before in c .rx-head .ensures (counts (s .args .words .now)) (s .pre .sound .queues) (omega (arith, e .if1 .left))
 
 returns : tie.Need-returns
-returns c =
-    let s = c .before .before .before .before in
-    let e = entries-length (s .args .r .rx) (s .pre .queues .rx) in
-    refuses rules.removeAndRelease _ _ answer.RxEmpty _ (s .pre) (λ mem. releases-none (view (s .args .r) (s .args .map) mem) (e ∙ c .before .if1 .taken)) (c .make-stepped .ensures)
+returns c = λ mem.
+    let s = c .before .before .before .before .before in
+    unchanged rules.removeAndRelease _ _ _ mem answer.RxEmpty (s .pre .sound) (releases-none _ (sym (s .pre .sound .queues .rx .many) ∙ c .if1 .taken))
 
 released-requires : tie.Need-released-requires
 released-requires c κs =
-    let a = c .before in
-    let s = a .before .before .before .before in
-    (omega (arith, a .head .ensures, head-small (view (s .args .r) (s .args .map) []) (s .pre .well) (some a)), s .pre .map)
+    let h = c .before .before .before .before .before .before .before .before in
+    let e = h .before .before in
+    let s = e .before .before .before .before .before in
+    omega (arith, s .pre .sound .sets, headed h, head-small (view (s .args .words .now) (s .args .sets .now) (s .args .queues .now) []) (s .pre .well) (some e))
 
 returns-2 : tie.Need-returns-2
-returns-2 c =
-    let a = c .before .before .before in
-    let s = a .before .before .before .before in
-    let v = view (s .args .r) (s .args .map) in
-    let q = s .pre .queues in
-    let e = c .before .before .pop .ensures in
-    let p = c .before .released .ensures in
-    performs rules.removeAndRelease (s .args .r) (s .args .map) (λ x. rules.giveBack (getD (x .pool .rx) 0 0) (inPool (setRx (drop 1 (x .pool .rx))) x)) _ _ _
-    (λ mem. releases-head (v mem) (some a))
-    (λ mem. ap₂ (λ (ls : List (List ℕ)) (l : List ℕ). inPool (λ x. setPages ls (setRx l x)) (v mem)) (p .0 ∙ ap (λ (j : ℕ). set (pagesOf (s .args .map)) j []) (a .head .ensures)) (e .0))
-    (record { rx = e .1; tx = q .tx; done = q .done }) (p .1) (c .make-stepped2 .ensures)
+returns-2 c = λ mem.
+    let l = c .before .before .before .before .before .before .before .before in
+    let h = l .before .before .before in
+    let e = h .before .before in
+    let s = e .before .before .before .before .before in
+    let w = s .args .words .now in
+    let ss = s .args .sets .now in
+    let q = s .args .queues .now in
+    let ls = map pagesOf ss in
+    let k = h .rx-head .result .0 in
+    let v = view w ss q mem in
+    let left = l .leave-rx .ensures in
+    let long = s .pre .sound .sets in
+    performs-paged rules.removeAndRelease w ss q mem (λ x. rules.giveBack (getD (x .pool .rx) 0 0) (inPool (setRx (drop 1 (x .pool .rx))) x)) (set ls k [])
+    (releases-head v (some e)) (c .before .before .released .ensures) (length-set ls k [] ∙ lists-length ss ∙ long) (rejoins-sound left long)
+    (ap (inPool (setPages (set ls k []))) (rejoins-chip left ss mem) ∙ ap (λ (j : ℕ). rules.giveBack j (inPool (setRx (drop 1 (queueIn 0 (word w 6) q))) v)) (headed h))
 
 pub do-remove-and-release-spec : {M : Type 1} → statement M
 do-remove-and-release-spec =
     tie.close
     (tie.spec
-    (λ c κs. search needs)
+    (λ c. search needs)
     returns
     (λ c κs. search needs)
     (λ c κs. search needs)
     released-requires
-    (λ c κs. search needs)
+    (λ c. search needs)
+    (λ c. search needs)
+    (λ c. search needs)
     returns-2)

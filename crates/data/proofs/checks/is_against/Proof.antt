@@ -1,3 +1,4 @@
+-- By the direction.
 use borrow.Author.Needs.{needs}
 use mathlib.Core.Path.{ap}
 use mathlib.Core.Bool.{not}

@@ -1,3 +1,4 @@
+-- One byte at the address's place.
 use borrow.Author.Needs.{needs}
 use Rattle.rules.specs.Packet.{putBytes}
 use Rattle.packet.proofs.access.write_byte.Statement.{statement}

@@ -1,3 +1,4 @@
+-- What the lent part is left as, put back between the bytes before and behind it, is memory with the bytes put.
 use borrow.Author.Needs.{needs}
 use mathlib.Core.Path.{ap, _∙_}
 use mathlib.Core.List.{List, _++_}
@@ -5,7 +6,7 @@ use Prim.Native.Nat.{ℕ, _+_, _-_, _%_}
 use native.Mathlib.Omega.{arith}
 use lib.ListN.{take, drop}
 use Rattle.lists.specs.Bytes.{part-put}
-use Rattle.store.specs.Views.{used}
+use Rattle.sets.specs.Views.{pagesOf}
 use Rattle.packet.proofs.fill.fill_page.Statement.{statement}
 use Rattle.packet.proofs.fill.fill_page.Tie as tie
 
@@ -15,12 +16,12 @@ returns c =
     let s = p .before .before .before in
     let x = s .args in
     let m = x .memory .now in
-    let a = x .at .0 in
-    let i = p .place-of .result in
-    let k = i + (256 - a % 256) - i in
+    let a = x .at .0 % 256 in
+    let i = p .place-in .result in
+    let k = i + (256 - a) - i in
     ap (λ (y : List ℕ). take i m ++ (y ++ drop k (drop i m))) (c .before .before .fill-part .ensures)
-    ∙ part-put (used (x .row)) (x .part .now) m a i k (p .place-of .ensures .0)
-    (s .pre .0) (omega (arith, s .pre .0)) (omega (arith, s .pre .1 .whole, p .place-of .ensures .1))
+    ∙ part-put (pagesOf (x .rest)) (x .part .now) m a i k (p .place-in .ensures .0)
+    (omega (arith, s .pre .0)) (omega (arith, s .pre .0)) (omega (arith, s .pre .1 .whole, p .place-in .ensures .1))
 
 pub fill-page-spec : {M : Type 1} → statement M
 fill-page-spec =

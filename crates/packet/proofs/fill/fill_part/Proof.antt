@@ -1,3 +1,4 @@
+-- The front of the part up to i is the front of the bytes; the rest of it is as it was.
 use borrow.Author.Needs.{needs}
 use mathlib.Core.Path.{_≡_, refl, ap, _∙_}
 use mathlib.Core.List.{List, _++_}

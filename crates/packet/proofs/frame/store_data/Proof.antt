@@ -1,83 +1,101 @@
+-- The bytes before address `at` are put, and the pages from that of `at` on are left. A page filled puts the frame's bytes up to its end, or to n.
 use borrow.Author.Needs.{needs}
-use mathlib.Core.Path.{_≡_, ap, _∙_}
+use mathlib.Core.Path.{_≡_, refl, ap, _∙_}
 use mathlib.Core.List.{List}
-use Prim.Native.Nat.{ℕ, _+_, _-_, _≤_, min}
+use Prim.Native.Nat.{ℕ, _+_, _-_, _*_, _/_, _%_, _≤_}
 use native.Mathlib.Omega.{arith}
 use lib.ListN.{length, take, drop, length-take}
+use lib.Seq.{drop-drop}
 use Rattle.rules.specs.Packet.{putBytes}
 use Rattle.lists.specs.Bytes.{put-on, length-put}
-use Rattle.store.specs.Views.{used}
-use Rattle.packet.specs.Room.{Room}
-use Rattle.packet.proofs.Facts.{room-less, room-put, room-small}
+use Rattle.sets.specs.Views.{pagesOf}
+use Rattle.packet.proofs.Facts.{room-put, room-small, room-rest, put-rest}
 use Rattle.packet.proofs.frame.store_data.Statement.{statement}
 use Rattle.packet.proofs.frame.store_data.Tie as tie
 
--- the bytes before address `at` are put
 abbrev Inv-loop : tie.InvT-loop
-Inv-loop memory₀ row frame n at₀ memory at =
-    (4 ≤ at) × (n + 5 ≤ 2048) × (memory ≡ putBytes (take (min n (at - 4)) frame) 4 (used row) memory₀)
+Inv-loop memory₀ pages frame n rest₀ at₀ memory rest at =
+    (4 ≤ at)
+    × (at ≤ n + 4)
+    × (n + 5 ≤ 8192)
+    × (pagesOf rest ≡ drop (at / 256) (pagesOf pages))
+    × (memory ≡ putBytes (take (at - 4) frame) 4 (pagesOf pages) memory₀)
 
 abbrev μ-loop : tie.MeasureT-loop
-μ-loop memory₀ row frame n at₀ memory at = n + 5 - at
-
--- how many bytes of the frame are put
-upto : (a : tie.At-loop Inv-loop μ-loop) (i : ℕ) → min (a .before .before .before .args .n) (a .loop .at - 4) ≡ i
-    → a .loop .memory ≡ putBytes (take i (a .before .before .before .args .frame .now)) 4 (used (a .before .before .before .args .row)) (a .before .before .before .args .memory .now)
-upto a i e =
-    let s = a .before .before .before .args in
-    a .loop .inv .2 ∙ ap (λ (j : ℕ). putBytes (take j (s .frame .now)) 4 (used (s .row)) (s .memory .now)) e
-
-kept : (a : tie.At-loop Inv-loop μ-loop) → Room (a .before .before .before .args .n + 5) (a .before .before .before .args .row) (a .loop .memory)
-kept a = room-put (a .before .before .before .pre .1) _ _ _ (a .loop .inv .2)
+μ-loop memory₀ pages frame n rest₀ at₀ memory rest at = n + 4 - at
 
 loop-holds : tie.Need-loop-holds Inv-loop μ-loop
 unfolding putBytes
 loop-holds c =
     let s = c .before .before in
-    let e : min (s .args .n) 0 ≡ 0 = omega arith in
-    (search needs, room-small (s .pre .1) (s .good .1 .0 .1 .0 .1), rw e)
-
--- the part starts no later than it ends
-sub-fill-page : tie.Need-sub-fill-page Inv-loop μ-loop
-sub-fill-page c = omega arith
+    (search needs, search needs, room-small (s .pre .1) (search needs), refl, refl)
 
 fill-page-requires : tie.Need-fill-page-requires Inv-loop μ-loop
 fill-page-requires c κs =
     let l = c .before .before in
-    let a = l .before .before in
+    let a = l .before in
+    let s = a .before .before .before in
     let v = a .loop .inv in
-    let t = l .before .loop-test .taken in
-    (simp length-take (omega (arith, v .0, t, l .least .ensures)), room-less (kept a) _ (omega (arith, t)))
+    (simp length-take (omega (arith, v .0, l .least .ensures)), room-rest (room-put (s .pre .1) _ _ _ (v .4)) (a .loop .rest) (a .loop .at) (v .3) (omega (arith, v .1)))
+
+-- memory after a page is filled
+filled : (l : tie.After-least Inv-loop μ-loop) {after : List ℕ} → let a = l .before in let x = a .before .before .before .args in
+    after ≡ putBytes (take (l .least .result - (a .loop .at - 4)) (drop (a .loop .at - 4) (x .frame .now))) (a .loop .at % 256) (pagesOf (a .loop .rest)) (a .loop .memory)
+    → after ≡ putBytes (take (l .least .result) (x .frame .now)) 4 (pagesOf (x .pages)) (x .memory .now)
+filled l e =
+    let a = l .before in
+    let s = a .before .before .before in
+    let v = a .loop .inv in
+    let frame = s .args .frame .now in
+    let m = s .args .memory .now in
+    let pages = pagesOf (s .args .pages) in
+    let at = a .loop .at in
+    let i = at - 4 in
+    let j = l .least .result in
+    let part = take (j - i) (drop i frame) in
+    let f : at ≡ i + 4 = omega (arith, v .0) in
+    e
+    ∙ put-rest at (pagesOf (a .loop .rest)) pages (v .3) part (a .loop .memory)
+    ∙ ap (putBytes part at pages) (v .4)
+    ∙ ap (λ (k : ℕ). putBytes part k pages (putBytes (take i frame) 4 pages m)) f
+    ∙ put-on frame pages m i j 4 (omega (arith, v .0, v .1, l .least .ensures)) (omega (arith, s .pre .0, l .least .ensures))
+
+same-length : tie.Need-same-length Inv-loop μ-loop
+same-length c =
+    let p = c .before .before .before in
+    ap length (filled (p .before .before .before) (p .fill-page .ensures)) ∙ length-put _ _ _ _
+
+returns : tie.Need-returns Inv-loop μ-loop
+returns c =
+    let p = c .before .before .before in
+    let l = p .before .before .before in
+    let a = l .before in
+    let x = a .before .before .before .args in
+    let v = a .loop .inv in
+    let t = c .if1 .taken in
+    let e : l .least .result ≡ x .n = omega (arith, t, l .least .ensures) in
+    let k : a .loop .at / 256 ≡ (x .n + 4) / 256 = omega (arith, t, v .1) in
+    (filled l (p .fill-page .ensures) ∙ ap (λ (j : ℕ). putBytes (take j (x .frame .now)) 4 (pagesOf (x .pages)) (x .memory .now)) e, v .3 ∙ ap (λ (i : ℕ). drop i (pagesOf (x .pages))) k)
 
 loop-again : tie.Need-loop-again Inv-loop μ-loop
 loop-again c =
-    let p = c .before .before in
+    let f = c .before in
+    let p = f .before .before .before in
     let l = p .before .before .before in
-    let a = l .before .before in
-    let s = a .before .before .before in
+    let a = l .before in
+    let x = a .before .before .before .args in
     let v = a .loop .inv in
-    let t = l .before .loop-test .taken in
-    let frame = s .args .frame .now in
-    let pages = used (s .args .row) in
-    let at = a .loop .at in
-    let from = at - 4 in
-    let to = l .least .result in
-    let part = take (to - from) (drop from frame) in
-    let e : at ≡ from + 4 = omega (arith, v .0) in (
-      search needs,
-      v .1,
-      p .fill-page .ensures
-          ∙ ap (λ (m : List ℕ). putBytes part at pages m) (upto a from (omega (arith, v .0, t)))
-          ∙ ap (λ (i : ℕ). putBytes part i pages (putBytes (take from frame) 4 pages (s .args .memory .now))) e
-          ∙ put-on frame pages (s .args .memory .now) from to 4 (omega (arith, v .0, t, l .least .ensures)) (omega (arith, s .pre .0, l .least .ensures))
-          ∙ ap (λ (j : ℕ). putBytes (take j frame) 4 pages (s .args .memory .now)) (l .least .ensures),
+    let k = a .loop .at / 256 in
+    let next = (k + 1) * 256 in
+    let t = f .if1 .left in
+    let e : l .least .result ≡ next - 4 = omega (arith, t, l .least .ensures) in
+    let g : k + 1 ≡ next / 256 = omega arith in (
+      omega arith,
+      omega (arith, t),
+      v .2,
+      c .without .ensures ∙ ap (drop 1) (v .3) ∙ drop-drop 1 k (pagesOf (x .pages)) ∙ ap (λ (i : ℕ). drop i (pagesOf (x .pages))) g,
+      filled l (p .fill-page .ensures) ∙ ap (λ (j : ℕ). putBytes (take j (x .frame .now)) 4 (pagesOf (x .pages)) (x .memory .now)) e,
     )
-
-same-length : tie.Need-same-length Inv-loop μ-loop
-same-length c = ap length (c .before .loop .inv .2) ∙ length-put _ _ _ _
-
-returns : tie.Need-returns Inv-loop μ-loop
-returns c = upto (c .before) (c .before .before .before .before .args .n) (omega (arith, c .before .loop .inv .0, c .loop-test .left))
 
 pub store-data-spec : {M : Type 1} → statement M
 store-data-spec =
@@ -90,14 +108,15 @@ store-data-spec =
     (λ c. search needs)
     (λ c. search needs)
     (λ c. search needs)
-    (λ c. search needs)
     (λ c κs. search needs)
     (λ c. search needs)
-    sub-fill-page
+    (λ c. search needs)
     (λ c. search needs)
     (λ c. search needs)
     fill-page-requires
     (λ c. search needs)
-    loop-again
     same-length
-    returns)
+    returns
+    (λ c κs. search needs)
+    (λ c. search needs)
+    loop-again)

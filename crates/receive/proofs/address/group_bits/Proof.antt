@@ -1,3 +1,5 @@
+-- The tests, one after another: where both went on the address is of a group and not broadcast,
+-- and the hash is below 64, so that what is returned is below 128.
 use borrow.Author.Needs.{needs}
 use mathlib.Core.Path.{sym, ap, _∙_}
 use Prim.Native.Nat.{ℕ, _+_, _*_}

@@ -1,3 +1,5 @@
+-- The tests, one after another, in the order of the rules' `accepted`: a return knows that those
+-- before its own failed, and its own is the callee's `ensures`.
 use borrow.Author.Needs.{needs}
 use mathlib.Core.Path.{sym, _∙_}
 use Rattle.rules.specs.Receive.{accepted}
@@ -28,12 +30,13 @@ returns-4 c =
     let f = g .before .before in
     let e = f .before .before in
     rw (sym (e .before .is-set .ensures) ∙ e .if1 .left, sym (f .before .is-broadcast .ensures) ∙ f .if2 .left, sym (g .before .is-wanted-group .ensures) ∙ g .if3 .left)
-    (c .same-bytes .ensures)
+    (c .is-station .ensures)
 
 pub is-accepted-spec : {M : Type 1} → statement M
 is-accepted-spec =
     tie.close
     (tie.spec
+    (λ c. search needs)
     (λ c κs. search needs)
     returns
     (λ c κs. search needs)

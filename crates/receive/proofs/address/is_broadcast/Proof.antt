@@ -1,3 +1,4 @@
+-- The bytes of three words FFFFh are six bytes FFh.
 use borrow.Author.Needs.{needs}
 use Rattle.rules.specs.Receive.{broadcast}
 use Rattle.receive.proofs.address.is_broadcast.Statement.{statement}
@@ -5,7 +6,7 @@ use Rattle.receive.proofs.address.is_broadcast.Tie as tie
 
 returns : tie.Need-returns
 unfolding broadcast
-returns c = c .same-bytes .ensures
+returns c = c .is-address .ensures
 
 pub is-broadcast-spec : {M : Type 1} → statement M
 is-broadcast-spec = tie.close (tie.spec (λ c κs. search needs) returns)

@@ -1,3 +1,4 @@
+-- It is the bit.
 use borrow.Author.Needs.{needs}
 use Rattle.rules.specs.Receive.{group}
 use Rattle.receive.proofs.address.is_group.Statement.{statement}

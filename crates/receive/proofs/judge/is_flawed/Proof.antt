@@ -1,3 +1,4 @@
+-- The tests, one after another.
 use Rattle.receive.proofs.judge.is_flawed.Statement.{statement}
 use Rattle.receive.proofs.judge.is_flawed.Tie as tie
 

@@ -1,3 +1,4 @@
+-- The count, rounded up.
 use borrow.Author.Needs.{needs}
 use Rattle.rules.specs.Receive.{pagesFor}
 use Rattle.receive.proofs.length.pages_for.Statement.{statement}

@@ -1,3 +1,5 @@
+-- The flags are summed up: each is the rules' `flag` of its test, and below 2, so that no sum
+-- overflows; `omega` adds them.
 use borrow.Author.Needs.{needs}
 use mathlib.Core.Path.{ap, _∙_}
 use native.Mathlib.Omega.{arith}

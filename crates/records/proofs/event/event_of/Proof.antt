@@ -1,3 +1,4 @@
+-- By the kind of the record, its first byte.
 use borrow.Author.Needs.{needs}
 use mathlib.Core.Path.{_≡_}
 use Prim.Native.Nat.{ℕ}

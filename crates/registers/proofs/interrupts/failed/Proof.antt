@@ -1,6 +1,6 @@
 -- The tests as they stand.
-use borrow.Author.Needs.{needs}
 use Rattle.rules.specs.Interrupts.{failed}
+use borrow.Author.Needs.{needs}
 use Rattle.registers.proofs.interrupts.failed.Statement.{statement}
 use Rattle.registers.proofs.interrupts.failed.Tie as tie
 

@@ -1,35 +1,40 @@
--- By bit 15 of the new word.
+-- By bit 15 of what is left.
+use mathlib.Core.Path.{sym, _∙_}
+use Rattle.state.specs.Promise.{does-makes}
+use Rattle.state.specs.Writes.{writes-rcr}
+use Rattle.registers.proofs.Reset.{rcr-resets}
 use borrow.Author.Needs.{needs}
-use mathlib.Core.Path.{refl, sym, _∙_}
-use Rattle.rules.specs.Registers.{writeRegister, writeRcr}
-use Rattle.state.specs.declared.Answer.the-variants.{Done}
-use Rattle.registers.proofs.Returned.{stepped}
 use Rattle.registers.proofs.resets.write_rcr.Statement.{statement}
 use Rattle.registers.proofs.resets.write_rcr.Tie as tie
 
 returns : tie.Need-returns
-unfolding writeRegister writeRcr
 returns c =
-    let s = c .before .before .before .before in
-    let n = c .before .before .before .new-rcr .ensures in
-    let t = sym (c .before .before .is-set .ensures) ∙ c .before .if1 .taken in
-    λ mem. rw (← n, t) (c .soft-reset .ensures mem)
+    let r = c .before .before .before .before .before .before .soft-reset .ensures in
+    let f = c .before .before .before .before .before .before .before .before .before .before in
+    let n = f .before .before in
+    let d = n .before .before .before .before .before in
+    (rcr-resets _ _ _ (sym (f .before .is-set .ensures) ∙ f .if1 .taken) (d .args .words .now) (d .args .sets .now) (d .args .queues .now) _ _ _ (n .new-rcr .ensures) r, (r .sound .kept .whole, r .sound .sets, r .sound .queues .long))
 
 returns-2 : tie.Need-returns-2
-unfolding writeRegister writeRcr
 returns-2 c =
-    let s = c .before .before .before .before in
-    let n = c .before .before .before .new-rcr .ensures in
-    let t = sym (c .before .before .is-set .ensures) ∙ c .before .if1 .left in
-    λ mem. rw (← n, t) (stepped (Done 0) _ (s .args .map) mem _ _ (s .pre .queues) (s .pre .map) (c .make-stepped .ensures) refl)
+    let n = c .before .before in
+    let d = n .before .before .before .before .before in
+    let o = d .pre in
+    let a = writes-rcr _ _ _ (sym (c .before .is-set .ensures) ∙ c .if1 .left) (d .args .words .now) (o .kept) (n .new-rcr .ensures) in
+    (does-makes a o, (a .kept .whole, o .sets, o .queues .long))
 
 pub write-rcr-spec : {M : Type 1} → statement M
 write-rcr-spec =
     tie.close
     (tie.spec
+    (λ c. search needs)
     (λ c κs. search needs)
     (λ c κs. search needs)
     (λ c κs. search needs)
+    (λ c. search needs)
+    (λ c. search needs)
+    (λ c. search needs)
     returns
-    (λ c κs. search needs)
+    (λ c. search needs)
+    (λ c. search needs)
     returns-2)

@@ -1,3 +1,4 @@
+-- A broadcast, or the lowest bit of the first byte.
 use borrow.Author.Needs.{needs}
 use mathlib.Core.Path.{ap, sym, _∙_}
 use Prim.Native.Nat.{ℕ, _*_}
@@ -7,7 +8,7 @@ use Rattle.rules.specs.Packet.{getBytes}
 use Rattle.rules.specs.Receive.{group}
 use Rattle.rules.specs.Send.{addressBits}
 use Rattle.lists.specs.Bytes.{value-one}
-use Rattle.store.specs.Views.{used}
+use Rattle.sets.specs.Views.{pagesOf}
 use Rattle.sending.proofs.address.address_bits.Statement.{statement}
 use Rattle.sending.proofs.address.address_bits.Tie as tie
 
@@ -21,7 +22,7 @@ returns-2 c =
     let b = c .before .before in
     let i = b .before .before in
     let s = i .before .before in
-    let first = b .read-byte .ensures ∙ value-one 4 (used (s .args .row)) (s .args .memory .now) in
+    let first = b .read-byte .ensures ∙ value-one 4 (pagesOf (s .args .pages)) (s .args .memory .now) in
     let g = c .flag-of .ensures .0 ∙ ap flag (c .before .byte-is-set .ensures ∙ ap (bit 0) first) in
     (rw (sym (i .is-broadcast .ensures) ∙ b .before .if1 .left) (ap (λ (x : ℕ). 8 * x) g), omega (arith, c .flag-of .ensures .1))
 

@@ -5,18 +5,18 @@ use Prim.Native.Nat.{_-_, _≤_}
 use native.Mathlib.Omega.{arith}
 use Rattle.rules.specs.Packet.{getBytes}
 use Rattle.rules.specs.Receive.{broadcast, sameBytes}
-use Rattle.store.specs.Views.{used}
+use Rattle.sets.specs.Views.{pagesOf}
 use Rattle.packet.proofs.Facts.{room-less}
 use Rattle.sending.proofs.Loops.{ones, ones-on, ones-not}
 use Rattle.sending.proofs.address.is_broadcast.Statement.{statement}
 use Rattle.sending.proofs.address.is_broadcast.Tie as tie
 
 abbrev Inv-loop : tie.InvT-loop
-Inv-loop memory row at₀ at =
-    (at ≤ 10) × (broadcast (getBytes 6 4 (used row) memory) ≡ ones 10 at (used row) memory)
+Inv-loop memory pages at₀ at =
+    (at ≤ 10) × (broadcast (getBytes 6 4 (pagesOf pages) memory) ≡ ones 10 at (pagesOf pages) memory)
 
 abbrev μ-loop : tie.MeasureT-loop
-μ-loop memory row at₀ at = 10 - at
+μ-loop memory pages at₀ at = 10 - at
 
 loop-holds : tie.Need-loop-holds Inv-loop μ-loop
 unfolding broadcast
@@ -29,13 +29,13 @@ returns : tie.Need-returns Inv-loop μ-loop
 returns c =
     let l = c .before .before .before in
     let s = l .before .before in
-    sym (l .loop .inv .1 ∙ ones-not 10 (l .loop .at) (c .before .before .loop-test .taken) (used (s .args .row)) (s .args .memory .now) (λ e. c .if1 .taken (c .before .read-byte .ensures ∙ e)))
+    sym (l .loop .inv .1 ∙ ones-not 10 (l .loop .at) (c .before .before .loop-test .taken) (pagesOf (s .args .pages)) (s .args .memory .now) (λ e. c .if1 .taken (c .before .read-byte .ensures ∙ e)))
 
 loop-again : tie.Need-loop-again Inv-loop μ-loop
 loop-again c =
     let l = c .before .before .before in
     let s = l .before .before in
-    (search needs, l .loop .inv .1 ∙ ones-on 10 (l .loop .at) (c .before .before .loop-test .taken) (used (s .args .row)) (s .args .memory .now) (sym (c .before .read-byte .ensures) ∙ c .if1 .left))
+    (search needs, l .loop .inv .1 ∙ ones-on 10 (l .loop .at) (c .before .before .loop-test .taken) (pagesOf (s .args .pages)) (s .args .memory .now) (sym (c .before .read-byte .ensures) ∙ c .if1 .left))
 
 returns-2 : tie.Need-returns-2 Inv-loop μ-loop
 unfolding sameBytes getBytes

@@ -1,3 +1,4 @@
+-- A packet that is released needs no place; else the count decides.
 use borrow.Author.Needs.{needs}
 use Rattle.sending.proofs.completion.is_full.Statement.{statement}
 use Rattle.sending.proofs.completion.is_full.Tie as tie

@@ -1,3 +1,4 @@
+-- A failed send releases nothing; else the bit decides.
 use borrow.Author.Needs.{needs}
 use borrow.Author.Tests.{not-true, not-false}
 use Rattle.sending.proofs.completion.is_released.Statement.{statement}

@@ -1,3 +1,4 @@
+-- By the outcome.
 use borrow.Author.Tests.{not-true, not-false}
 use Rattle.sending.proofs.nibbles.good_single.Statement.{statement}
 use Rattle.sending.proofs.nibbles.good_single.Tie as tie

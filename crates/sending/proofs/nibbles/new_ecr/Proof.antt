@@ -1,3 +1,4 @@
+-- The sum is the nibbles' of the rules, written out.
 use borrow.Author.Needs.{needs}
 use native.Mathlib.Omega.{arith}
 use Rattle.rules.specs.Send.{nibbles}

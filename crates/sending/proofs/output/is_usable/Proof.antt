@@ -1,3 +1,4 @@
+-- Each test that fails makes one factor of `usable` false; past both the last decides.
 use borrow.Author.Needs.{needs}
 use mathlib.Core.Path.{sym, _∙_}
 use borrow.Author.Tests.{le-leb, lt-leb}

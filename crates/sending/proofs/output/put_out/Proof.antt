@@ -1,29 +1,25 @@
 -- The data goes out first, and the zeros behind it.
 use borrow.Author.Needs.{needs}
 use mathlib.Core.Path.{_≡_, ap, sym, _∙_}
-use mathlib.Core.List.{List}
 use Prim.Native.Nat.{ℕ, _+_, _-_}
 use native.Mathlib.Omega.{arith}
 use borrow.Author.Tests.{not-true, not-false}
-use lib.ListN.{length, replicate}
-use lib.Seq.{sets}
-use Rattle.rules.specs.Answers.{over}
 use Rattle.rules.specs.Send.{sendLength, controlByte, putOut}
-use Rattle.lists.specs.Bytes.{length-get, value-first}
-use Rattle.store.specs.Views.{used}
+use Rattle.lists.specs.Bytes.{value-first}
+use Rattle.sets.specs.Views.{pagesOf}
 use Rattle.sending.specs.Sends.{PutsOut}
-use Rattle.sending.proofs.Padding.{put-plain, put-padded, padded-length, pads}
+use Rattle.sending.proofs.Padding.{puts-plain, puts-padded}
 use Rattle.sending.proofs.output.put_out.Statement.{statement}
 use Rattle.sending.proofs.output.put_out.Tie as tie
 
 -- the length of the data, as the rules have it
 measured : (l : tie.After-send-length) → let s = l .before .before .before .before in
-    l .send-length .result ≡ sendLength (s .args .count) (controlByte (s .args .count) (used (s .args .row)) (s .args .memory .now))
+    l .send-length .result ≡ sendLength (s .args .count) (controlByte (s .args .count) (pagesOf (s .args .pages)) (s .args .memory .now))
 unfolding controlByte
 measured l =
     let s = l .before .before .before .before in
     l .send-length .ensures .0
-    ∙ ap (sendLength (s .args .count)) (l .before .read-byte .ensures ∙ value-first (s .args .count - 1) (used (s .args .row)) (s .args .memory .now))
+    ∙ ap (sendLength (s .args .count)) (l .before .read-byte .ensures ∙ value-first (s .args .count - 1) (pagesOf (s .args .pages)) (s .args .memory .now))
 
 returns : tie.Need-returns
 returns c =
@@ -31,33 +27,22 @@ returns c =
     let o = i .before .before .before in
     let l = o .before .before in
     let a = l .before .before .before .before .args in
-    let n = l .send-length .result in
-    let e = put-plain (a .tcr) (a .count) (used (a .row)) (a .memory .now) n (measured l) (sym (i .is-set .ensures) ∙ not-true (i .is-set .result) (c .if1 .taken)) in
-    record {
-      value = sym (ap length e ∙ length-get n 4 (used (a .row)) (a .memory .now));
-      output = o .copy-out .ensures ∙ ap (λ (b : List ℕ). over b (a .out .now)) (sym e);
-    }
+    puts-plain (a .tcr) (a .count) (pagesOf (a .pages)) (a .memory .now) (l .send-length .result) (measured l) (a .out .now) (o .copy-out .ensures)
+    (sym (i .is-set .ensures) ∙ not-true (i .is-set .result) (c .if1 .taken))
 
 -- the same with its padding, where v is the length that is returned
 padded-out : (p : tie.After-pad) (v : ℕ) → let l = p .before .before .before .before .before .before .before .before in
     let a = l .before .before .before .before .args in
     v ≡ l .send-length .result + (60 - l .send-length .result)
-    → PutsOut (putOut (a .tcr) (a .count) (used (a .row)) (a .memory .now)) (a .out .now) (p .pad .last .0) v
+    → PutsOut (putOut (a .tcr) (a .count) (pagesOf (a .pages)) (a .memory .now)) (a .out .now) (p .pad .last .0) v
 padded-out p v h =
     let i = p .before .before .before in
     let o = i .before .before .before in
     let l = o .before .before in
     let s = l .before .before .before .before in
     let a = s .args in
-    let n = l .send-length .result in
-    let pages = used (a .row) in
-    let m = a .memory .now in
-    let e = put-padded (a .tcr) (a .count) pages m n (measured l) (sym (i .is-set .ensures) ∙ not-false (i .is-set .result) (p .before .before .if1 .left)) in
-    record {
-      value = h ∙ sym (ap length e ∙ padded-length n pages m);
-      output = p .pad .ensures ∙ ap (λ (x : List ℕ). sets x n (replicate (60 - n) 0)) (o .copy-out .ensures)
-          ∙ pads n pages m (a .out .now) (omega (arith, s .pre, l .send-length .ensures .1)) ∙ ap (λ (b : List ℕ). over b (a .out .now)) (sym e);
-    }
+    puts-padded (a .tcr) (a .count) (pagesOf (a .pages)) (a .memory .now) (l .send-length .result) (measured l) (a .out .now) (o .copy-out .ensures)
+    (sym (i .is-set .ensures) ∙ not-false (i .is-set .result) (p .before .before .if1 .left)) (omega (arith, s .pre, l .send-length .ensures .1)) (p .pad .ensures) h
 
 returns-2 : tie.Need-returns-2
 returns-2 c = padded-out (c .before .before .before) _ (omega (arith, c .if2 .taken))

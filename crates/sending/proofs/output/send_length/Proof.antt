@@ -1,3 +1,4 @@
+-- By the bit of the control byte.
 use borrow.Author.Needs.{needs}
 use mathlib.Core.Path.{sym, _∙_}
 use Rattle.rules.specs.Send.{sendLength}

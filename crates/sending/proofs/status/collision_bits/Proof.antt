@@ -1,3 +1,4 @@
+-- By the number of collisions: none, one, more.
 use borrow.Author.Needs.{needs}
 use native.Mathlib.Omega.{arith}
 use borrow.Author.Tests.{ne-eqb, lt-ltb}

@@ -1,3 +1,4 @@
+-- The sum of its parts, each its function's.
 use borrow.Author.Needs.{needs}
 use mathlib.Core.Path.{ap}
 use native.Mathlib.Omega.{arith}

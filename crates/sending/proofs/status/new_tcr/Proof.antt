@@ -1,3 +1,4 @@
+-- By the outcome.
 use borrow.Author.Needs.{needs}
 use Rattle.sending.proofs.status.new_tcr.Statement.{statement}
 use Rattle.sending.proofs.status.new_tcr.Tie as tie

@@ -1,3 +1,4 @@
+-- By the outcome.
 use borrow.Author.Needs.{needs}
 use native.Mathlib.Omega.{arith}
 use Rattle.rules.specs.Send.{outcomeBits}

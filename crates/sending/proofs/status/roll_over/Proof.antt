@@ -1,3 +1,4 @@
+-- By the bit as it stands.
 use borrow.Author.Needs.{needs}
 use mathlib.Core.Path.{sym, _∙_}
 use Rattle.sending.proofs.status.roll_over.Statement.{statement}

@@ -1,3 +1,4 @@
+-- The first i bytes are those that stood behind the last complete record; what is still to be moved lies behind what has been written.
 use borrow.Author.Needs.{needs}
 use mathlib.Core.Path.{_≡_, refl, ap, sym, _∙_}
 use mathlib.Core.List.{List, _++_}

@@ -1,3 +1,4 @@
+-- Power-up leaves a chip in order.
 use borrow.Author.Needs.{needs}
 use Prim.Native.Nat.{ℕ}
 use lib.ListN.{length-replicate}
@@ -5,18 +6,19 @@ use Rattle.serving.proofs.serve.run.Statement.{statement}
 use Rattle.serving.proofs.serve.run.Tie as tie
 
 serve-from-requires : tie.Need-serve-from-requires
-serve-from-requires c κs =
-    let started = c .before .before .before .before .before .before .before .power-up .ensures in (
-      record { chip = rw (c .before .before .before .before .before .pages-of .ensures) (started .ready); room = length-replicate {A = ℕ} 2048 0; few = search needs },
-      (length-replicate {A = ℕ} 8192 0, length-replicate {A = ℕ} 32768 0),
-    )
+serve-from-requires c κs = (
+  record { chip = c .before .before .before .before .before .before .before .before .before .before .before .before .before .before .power-up .ensures .ready; room = length-replicate {A = ℕ} 2048 0; few = search needs },
+  (length-replicate {A = ℕ} 8192 0, length-replicate {A = ℕ} 32768 0),
+)
 
 pub run-spec : {M : Type 1} → statement M
 run-spec =
     tie.close
     (tie.spec
     (λ c κs. search needs)
-    (λ c κs. search needs)
+    (λ c. search needs)
+    (λ c. search needs)
+    (λ c. search needs)
     (λ c. search needs)
     (λ c. search needs)
     (λ c. search needs)

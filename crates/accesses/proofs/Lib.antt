@@ -1,0 +1,3 @@
+-- Proofs that belong to no one function.
+pub mod Places
+pub mod Reach

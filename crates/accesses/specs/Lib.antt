@@ -1,0 +1,2 @@
+-- What an access moves of the data register.
+pub mod Lanes

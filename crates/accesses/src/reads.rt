@@ -1,0 +1,84 @@
+// Reads.
+use crate::is_wide;
+use state::Answer;
+use state::BANK;
+use state::COMMAND;
+use state::CONTROL;
+use state::ECR;
+use state::EPHSR;
+use state::HEADS;
+use state::INTERRUPT;
+use state::MIR;
+use state::PACKET;
+use state::POINTER;
+use state::RCR;
+use state::RESERVED;
+use state::STATION;
+use state::STATION_1;
+use state::STATION_2;
+use state::TABLE;
+use state::TABLE_1;
+use state::TABLE_2;
+use state::TABLE_3;
+use state::TCR;
+use state::Width;
+ghost use mathlib.Core.Path.{_≡_};
+ghost use lib.ListN.{length};
+ghost use Rattle.rules.specs.Registers as rules;
+ghost use Rattle.state.specs.declared.Answer.the-variants as Answer;
+ghost use Rattle.state.specs.Meaning.{widthOf};
+ghost use Rattle.state.specs.View.{view};
+ghost use Rattle.state.specs.Promise.{Ready, Makes};
+
+// Done, with what the access takes of the word.
+fn gives(width: Width, offset: u8, word: u16) -> Answer
+    ensures { λ a. ⌜ a ≡ Answer.Done (rules.taken (rules.lanesAt (widthOf width) offset) word) ⌝ }
+{
+    Answer::Done(state::taken(width, offset, word))
+}
+
+// The register that an access reaches stands at bank * 8 + offset / 2. Neighbouring places are dealt out to two arms with one body, for the compiler alone:
+// a run of places in one arm is tested once more behind its table, by up to 8 instructions. Data comes last, as an arm for each of its places would be two calls.
+pub fn read(
+    words: &mut [u16],
+    sets: &[u32],
+    queues: &[u8],
+    memory: &[u8],
+    width: Width,
+    offset: u8,
+) -> Answer
+    requires { ⌜ Ready (now words) (now sets) (now queues) × (length (now memory) ≡ 6144) ⌝ }
+    ensures { λ a. ⌜ Makes (rules.access (rules.read (widthOf width) offset) (view (now (words .entry)) (now (sets .entry)) (now (queues .entry)) (now (memory .entry)))) a (now (words .exit)) (now (sets .entry)) (now (queues .entry)) (now (memory .entry)) ⌝ }
+{
+    if state::misplaced(width, offset) {
+        return Answer::Misplaced;
+    }
+    let at = words[BANK] as usize % 8 * 8 + offset as usize / 2;
+    match at {
+        ECR => gives(width, offset, registers::read_ecr(words)),
+        MIR => gives(width, offset, registers::mir(sets)),
+        HEADS => gives(width, offset, registers::heads(words, queues)),
+        INTERRUPT => gives(width, offset, registers::interrupt(words)),
+        // the bank, at offset E of every bank
+        7 | 15 | 23 | 31 | 39 | 47 | 55 | 63 => gives(width, offset, words[BANK]),
+        // not modelled: bank 0, C; bank 1, 0, 2 and A; bank 3, 8, A and C; bank 4
+        6 | 8 | 13 | 28 | 30 | 32 | 34 | 36 | 38 => Answer::NotModelled,
+        9 | 29 | 33 | 35 | 37 => Answer::NotModelled,
+        TCR | RCR | STATION | STATION_2 | CONTROL | COMMAND | POINTER | TABLE | TABLE_2 => {
+            gives(width, offset, words[at])
+        }
+        EPHSR | RESERVED | STATION_1 | PACKET | TABLE_1 | TABLE_3 => gives(
+            width,
+            offset,
+            words[at],
+        ),
+        _ => {
+            if at < INTERRUPT {
+                data::read_data(words, sets, queues, memory, is_wide(width))
+            } else {
+                // banks 5 to 7
+                gives(width, offset, 0x3333)
+            }
+        }
+    }
+}

@@ -1,0 +1,78 @@
+// The registers: numbers in range, and fixed what no register has.
+use state::BANK;
+use state::INTERRUPT;
+use state::LATCHES;
+use state::PACKET;
+use state::RESERVED;
+ghost use mathlib.Core.Path.{_≡_};
+ghost use mathlib.Core.Logic.{_⊎_};
+ghost use Prim.Native.Nat.{_/_, _%_, _<_};
+ghost use lib.ListN.{length};
+ghost use Rattle.rules.specs.WellFormed.{GoodNumbers};
+ghost use Rattle.lists.specs.Facts.{Decides};
+ghost use Rattle.state.specs.View.{registersIn, Latches, Fixed, BlankIn, Kept};
+
+// Packet number and allocation result.
+fn packet_good(packet: u16) -> bool
+    ensures { λ b. ⌜ Decides b ((packet % 256 < 64) × ((packet / 256 < 24) ⊎ (packet / 256 ≡ 0x80))) ⌝ }
+{
+    if 64 <= packet % 256 {
+        return false;
+    }
+    if packet / 256 < 24 {
+        return true;
+    }
+    packet / 256 == 0x80
+}
+
+// No bit but TX EMPTY and RX_OVRN.
+fn latches_good(x: u16) -> bool
+    ensures { λ b. ⌜ Decides b (Latches x) ⌝ }
+{
+    match x {
+        0 | 4 | 16 | 20 => true,
+        _ => false,
+    }
+}
+
+fn fixed_good(bank: u16, reserved: u16, latches: u16, mask: u16) -> bool
+    ensures { λ b. ⌜ Decides b (Fixed bank reserved latches mask) ⌝ }
+{
+    if bank / 8 != 0x660 {
+        return false;
+    }
+    if reserved / 256 != 0x33 {
+        return false;
+    }
+    if mask % 256 != 0 {
+        return false;
+    }
+    latches_good(latches)
+}
+
+// The words that hold nothing are 0.
+fn blanks_good(words: &[u16]) -> bool
+    requires { ⌜ length (now words) ≡ 32 ⌝ }
+    ensures { λ b. ⌜ Decides b (BlankIn (now (words .entry))) ⌝ }
+{
+    let low = words[4] | words[15] | words[16] | words[18] | words[20] | words[21] | words[23];
+    (low | words[28] | words[29] | words[30] | words[31]) == 0
+}
+
+pub fn words_good(words: &[u16]) -> bool
+    requires { ⌜ length (now words) ≡ 32 ⌝ }
+    ensures { λ b. ⌜ Decides b (Kept (now (words .entry)) × GoodNumbers 24 (registersIn (now (words .entry)) .numbers)) ⌝ }
+{
+    if !fixed_good(
+        words[BANK],
+        words[RESERVED],
+        words[LATCHES],
+        words[INTERRUPT],
+    ) {
+        return false;
+    }
+    if !blanks_good(words) {
+        return false;
+    }
+    packet_good(words[PACKET])
+}

@@ -1,0 +1,11 @@
+-- The first of the queue's bytes.
+use borrow.Author.Needs.{needs}
+use Rattle.pool.proofs.completion_head.Statement.{statement}
+use Rattle.pool.proofs.completion_head.Tie as tie
+
+returns : tie.Need-returns
+returns c = λ counts h some. c .head .ensures _ _ (h .completion) some
+
+pub completion-head-spec : {M : Type 1} → statement M
+completion-head-spec =
+    tie.close (tie.spec (λ c. search needs) (λ c. search needs) (λ c. search needs) (λ c κs. search needs) returns)

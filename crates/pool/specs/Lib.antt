@@ -1,0 +1,2 @@
+-- Changes of the queues.
+pub mod Queues

@@ -1,0 +1,36 @@
+-- The registers are set beside the queues, and then the head leaves TX.
+use borrow.Author.Needs.{needs}
+use mathlib.Core.Path.{ap, sym, subst}
+use mathlib.Core.List.{List}
+use Prim.Native.Nat.{ℕ}
+use native.Mathlib.Omega.{arith}
+use Rattle.state.specs.View.{word}
+use Rattle.state.specs.Promise.{QueuesIn}
+use Rattle.sending.specs.Numbers.{sendOf}
+use Rattle.sending.proofs.Facts.{leaves}
+use Rattle.sending.proofs.after.after_send.Statement.{statement}
+use Rattle.sending.proofs.after.after_send.Tie as tie
+
+leave-tx-requires : tie.Need-leave-tx-requires
+leave-tx-requires c κs =
+    let r = c .before .before .before .before in
+    let s = r .before .before .before .before in
+    let e = r .set-registers .ensures in
+    (e .kept, subst (λ (n : List ℕ). QueuesIn n (s .args .queues .now)) (sym (e .still)) (s .pre .1), omega (arith, s .pre .2, ap (λ (n : List ℕ). word n 1) (e .still)))
+
+returns : tie.Need-returns
+returns c =
+    let l = c .before .before .before .before in
+    let r = l .before .before .before .before .before in
+    let s = r .before .before .before .before in
+    leaves (s .args .good) (sendOf (s .args .s)) (s .args .address) (s .pre .1) (s .pre .2) (r .set-registers .ensures) (l .leave-tx .ensures)
+
+pub after-send-spec : {M : Type 1} → statement M
+after-send-spec =
+    tie.close
+    (tie.spec
+    (λ c κs. search needs)
+    leave-tx-requires
+    (λ c. search needs)
+    (λ c. search needs)
+    returns)

@@ -1,0 +1,87 @@
+-- By the event that the record is.
+use borrow.Author.Needs.{needs}
+use mathlib.Core.Path.{_≡_, ap, sym, _∙_}
+use mathlib.Core.List.{List}
+use Prim.Native.Nat.{ℕ}
+use Rattle.rules.specs.Bench.{eventOf}
+use Rattle.records.specs.declared.event.Event.{Event}
+use Rattle.records.specs.Event.{meant}
+use Rattle.serving.proofs.Steps.{turns-as, access-turns, frame-turns, send-turns, wire-turns, unknown-turns}
+use Rattle.serving.proofs.turn.answer.Statement.{statement}
+use Rattle.serving.proofs.turn.answer.Tie as tie
+
+-- the event is the arm's
+told : {r k : Event} (bytes : List ℕ) → meant r bytes ≡ eventOf bytes → r ≡ k → eventOf bytes ≡ meant k bytes
+told bytes e q = sym e ∙ ap (λ (j : Event). meant j bytes) q
+
+returns : tie.Need-returns
+returns c =
+    let s = c .before .before .before .before .before .before .before .before .before .before .before .before .before .before .before .before .before in
+    turns-as _ (told (s .args .bytes) (c .before .before .before .before .before .before .before .before .before .before .event-of .ensures) (c .before .before .before .before .before .before .before .before .event .given .1)) (access-turns (s .args .words .now) (s .args .sets .now) (s .args .queues .now) (s .args .memory .now) (s .args .wire .now) (s .args .have .now) (s .args .out .now) (s .pre) _ _ _ _ _ _ (c .before .before .read .ensures))
+
+returns-2 : tie.Need-returns-2
+returns-2 c =
+    let s = c .before .before .before .before .before .before .before .before .before .before .before .before .before .before .before .before .before .before .before .before .before .before .before in
+    turns-as _ (told (s .args .bytes) (c .before .before .before .before .before .before .before .before .before .before .before .before .before .before .before .before .event-of .ensures) (c .before .before .before .before .before .before .before .before .before .before .before .before .before .before .event2 .given .1)) (access-turns (s .args .words .now) (s .args .sets .now) (s .args .queues .now) (s .args .memory .now) (s .args .wire .now) (s .args .have .now) (s .args .out .now) (s .pre) _ _ _ _ _ _ (c .before .before .before .before .before .before .before .before .write .ensures))
+
+returns-3 : tie.Need-returns-3
+returns-3 c =
+    let s = c .before .before .before .before .before .before .before .before .before .before .before .before .before .before .before in
+    turns-as _ (told (s .args .bytes) (c .before .before .before .before .before .before .before .before .event-of .ensures) (c .before .before .before .before .before .before .event3 .given .1)) (wire-turns (s .args .words .now) (s .args .sets .now) (s .args .queues .now) (s .args .memory .now) (s .args .wire .now) (s .args .have .now) (s .args .out .now) (s .pre) _ _ _ _ _ (c .before .before .gather-more .ensures))
+
+returns-4 : tie.Need-returns-4
+returns-4 c =
+    let s = c .before .before .before .before .before .before .before .before .before .before .before .before .before .before .before .before .before .before .before .before .before .before .before .before .before in
+    turns-as _ (told (s .args .bytes) (c .before .before .before .before .before .before .before .before .before .before .before .before .before .before .before .before .before .before .event-of .ensures) (c .before .before .before .before .before .before .before .before .before .before .before .before .before .before .before .before .event4 .given .1)) (frame-turns (s .args .words .now) (s .args .sets .now) (s .args .queues .now) (s .args .memory .now) (s .args .wire .now) (s .args .have .now) (s .args .out .now) (s .pre) _ _ _ _ _ _ _ _ (c .before .before .before .before .before .before .before .before .frame-ends .ensures))
+
+returns-5 : tie.Need-returns-5
+returns-5 c =
+    let s = c .before .before .before .before .before .before .before .before .before .before .before .before .before .before .before .before .before .before .before .before .before .before .before .before .before .before in
+    turns-as _ (told (s .args .bytes) (c .before .before .before .before .before .before .before .before .before .before .before .before .before .before .before .before .before .before .before .event-of .ensures) (c .before .before .before .before .before .before .before .before .before .before .before .before .before .before .before .before .before .event5 .given .1)) (send-turns (s .args .words .now) (s .args .sets .now) (s .args .queues .now) (s .args .memory .now) (s .args .wire .now) (s .args .have .now) (s .args .out .now) (s .pre) _ _ _ _ _ _ _ (c .before .before .before .before .before .before .before .before .before .before .finished .ensures))
+
+returns-6 : tie.Need-returns-6
+returns-6 c =
+    let s = c .before .before .before .before .before .before .before .before .before in
+    turns-as _ (told (s .args .bytes) (c .before .before .event-of .ensures) (c .enum-told .given .1)) (unknown-turns (s .args .words .now) (s .args .sets .now) (s .args .queues .now) (s .args .memory .now) (s .args .wire .now) (s .args .have .now) (s .args .out .now) (s .pre))
+
+pub answer-spec : {M : Type 1} → statement M
+answer-spec =
+    tie.close
+    (tie.spec
+    (λ c κs. search needs)
+    (λ c. search needs)
+    (λ c κs. c .before .before .before .before .before .before .before .before .before .before .before .before .before .before .pre .chip)
+    (λ c. search needs)
+    (λ c κs. c .before .before .before .before .before .before .before .before .before .before .before .before .before .before .pre .chip)
+    (λ c. search needs)
+    (λ c κs. (c .before .before .before .before .before .before .before .before .before .before .before .before .pre .room, c .before .before .before .before .before .before .before .before .before .before .before .before .pre .few))
+    (λ c. search needs)
+    (λ c κs. c .before .before .before .before .before .before .before .before .before .before .before .before .before .before .before .before .pre)
+    (λ c. search needs)
+    (λ c κs. c .before .before .before .before .before .before .before .before .before .before .before .before .before .before .before .pre .chip)
+    (λ c. search needs)
+    (λ c. search needs)
+    (λ c. search needs)
+    (λ c. search needs)
+    (λ c. search needs)
+    returns
+    (λ c. search needs)
+    (λ c. search needs)
+    (λ c. search needs)
+    (λ c. search needs)
+    returns-2
+    (λ c. search needs)
+    returns-3
+    (λ c. search needs)
+    (λ c. search needs)
+    (λ c. search needs)
+    (λ c. search needs)
+    (λ c. search needs)
+    returns-4
+    (λ c. search needs)
+    (λ c. search needs)
+    (λ c. search needs)
+    (λ c. search needs)
+    (λ c. search needs)
+    returns-5
+    returns-6)

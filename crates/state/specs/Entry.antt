@@ -1,0 +1,42 @@
+-- What a public entry of the chip promises, for any input: document 01's step where the record is in order, else refusal 16.
+use mathlib.Core.Path.{_≡_}
+use mathlib.Core.List.{List}
+use Prim.Native.Nat.{ℕ}
+use lib.ListN.{length}
+use Rattle.rules.specs.Answers.{Turn}
+use Rattle.rules.specs.Step.{Input, step}
+use Rattle.state.specs.declared.Answer.{Answer}
+use Rattle.state.specs.declared.Answer.the-variants.{Damaged}
+use Rattle.state.specs.declared.Registers.{Registers}
+use Rattle.state.specs.declared.Pages.{Pages}
+use Rattle.state.specs.declared.Queues.{Queues}
+use Rattle.state.specs.declared.Returned.{Returned}
+use Rattle.state.specs.Meaning.{replyOf}
+use Rattle.state.specs.View.{view}
+use Rattle.state.specs.Promise.{Ready}
+
+-- a state that stands for a well-formed chip, beside its 6,144 bytes
+pub record InOrder (w s q mem : List ℕ) : Type 0 where
+  pub ready : Ready w s q
+  pub full : length mem ≡ 6144
+
+-- the answer a, and state, memory and output after it, are the turn t of the rules, and the state is in order again
+pub record Right (t : Turn) (a : Answer) (w s q mem out : List ℕ) : Type 0 where
+  pub chip : view w s q mem ≡ t .chip
+  pub reply : replyOf a ≡ t .reply
+  pub output : out ≡ t .output
+  pub ready : InOrder w s q mem
+
+-- refusal 16, and nothing changes
+pub record Broken (r : Registers) (p : Pages) (f : Queues) (mem out : List ℕ) (x : Returned) (mem′ out′ : List ℕ) : Type 0 where
+  pub same : x ≡ record { answer = Damaged; registers = r; pages = p; queues = f }
+  pub memory : mem′ ≡ mem
+  pub output : out′ ≡ out
+
+abbrev pub InOrderBy : Registers → Pages → Queues → List ℕ → Type 0
+InOrderBy r p f mem = InOrder (r .words) (p .sets) (f .slots) mem
+
+-- the promise of a public entry: on registers r, page sets p, queues f, memory mem and output buffer out it returns x, and leaves memory mem′ and output out′
+pub record Answers (i : Input) (r : Registers) (p : Pages) (f : Queues) (mem out : List ℕ) (x : Returned) (mem′ out′ : List ℕ) : Type 0 where
+  pub done : InOrderBy r p f mem → Right (step i (view (r .words) (p .sets) (f .slots) mem) out) (x .answer) (x .registers .words) (x .pages .sets) (x .queues .slots) mem′ out′
+  pub broken : (InOrderBy r p f mem → ⊥) → Broken r p f mem out x mem′ out′

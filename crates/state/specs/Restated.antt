@@ -1,0 +1,268 @@
+-- The restated definition says of the record's numbers what document 01 says of the lists: `RecordFormed` holds exactly where `Ready` does. By its parts: a set and its
+-- page list (`sets-restated`), a queue's bytes and its entries (`queues-as-lists`, `queues-as-bytes`), the words (`words-restated`).
+use mathlib.Core.Path.{_≡_, refl, ap, ap₂, sym, _∙_, subst}
+use mathlib.Core.Bool.{true, false, true≢false}
+use mathlib.Core.Logic.{_⊎_, inl, inr, ⊎-elim, _↔_}
+use mathlib.Core.List.{List, [], _∷_, _++_, map}
+use Prim.Native.Nat.{ℕ, zero, suc, _+_, _-_, _*_, _/_, _%_, _^_, _≤_, _<_}
+use native.Mathlib.Omega.{arith}
+use native.Mathlib.Nat.{mod-lt, div-one, div-eq-of-lt, pow-suc}
+use borrow.Author.Tests.{eqb-true, eq-eqb}
+use lib.Dec.{eqb}
+use lib.ListN.{length, take, drop, getD, replicate, length-drop, length-replicate, getD-replicate, take-append-drop}
+use lib.Pow.{pow-mono, shr-shr}
+use lib.Seq.{length-take-le, getD-take, getD-drop, getD-append-add, ext-getD}
+use Rattle.rules.specs.Bits.{bit, flag}
+use Rattle.rules.specs.Lists.{member, some?}
+use Rattle.rules.specs.WellFormed.{Distinct, GoodPages, GoodQueues, GoodNumbers}
+use Rattle.lists.specs.Facts.{if-not, member-at}
+use Rattle.lists.specs.Each.{Each, each-member}
+use Rattle.sets.specs.Views.{pagesOf}
+use Rattle.sets.specs.Bits.{bit-zero, bits-bound}
+use Rattle.sets.specs.Lists.{lists-length, none-at, some-at}
+use Rattle.sets.specs.Good.{as-lists, as-sets}
+use Rattle.queues.specs.Slots.{Slots}
+use Rattle.queues.specs.Parts.{slots, part-long}
+use Rattle.state.specs.View.{word, registersIn, queueIn, Latches, Kept}
+use Rattle.state.specs.Promise.{QueuesIn, Ready}
+use Rattle.state.specs.WellFormed.{SetsFormed, QueuesFormed, NumbersFormed, FixedBytes, RecordFormed, slotAt}
+
+-- The latches: no bit but 2 and 4.
+power-above : (n : ℕ) → n < 2 ^ n
+power-above zero = omega arith
+power-above (suc n) = omega (arith, pow-suc 2 n, power-above n)
+
+flag-digit : (k x : ℕ) → flag (bit k x) ≡ x / 2 ^ k % 2
+unfolding bit flag
+flag-digit k x = go (x / 2 ^ k % 2) (mod-lt (x / 2 ^ k) (omega arith))
+  where
+    go : (d : ℕ) → d < 2 → flag (eqb d 1) ≡ d
+    go zero h = refl
+    go (suc zero) h = refl
+    go (suc (suc d)) h = absurd (omega arith)
+
+digits : (x : ℕ) → x ≡ x % 2 + 2 * (x / 2 % 2) + 4 * (x / 4 % 2) + 8 * (x / 8 % 2) + 16 * (x / 16 % 2) + 32 * (x / 32)
+digits x = omega (arith, shr-shr x 1 1, shr-shr x 2 1, shr-shr x 3 1, shr-shr x 4 1)
+
+digit-set : (k x : ℕ) → x / 2 ^ k % 2 ≡ 1 → bit k x ≡ true
+unfolding bit
+digit-set k x e = eq-eqb _ _ e
+
+latches : (x : ℕ) → ((k : ℕ) → bit k x ≡ true → (k ≡ 2) ⊎ (k ≡ 4)) → Latches x
+latches x h =
+    let small : x < 2 ^ 5 = bits-bound x 5 x (power-above x) (λ k b. ⊎-elim (λ e. omega arith) (λ e. omega arith) (h k b)) in
+    let clear : (k : ℕ) → (k ≡ 2 → ⊥) → (k ≡ 4 → ⊥) → x / 2 ^ k % 2 ≡ 1 → ⊥ = λ k a b e. ⊎-elim a b (h k (digit-set k x e)) in
+    let c0 : x % 2 ≡ 1 → ⊥ = λ e. clear 0 (λ f. omega arith) (λ f. omega arith) (ap (λ (y : ℕ). y % 2) (div-one x) ∙ e) in
+    let c1 : x / 2 % 2 ≡ 1 → ⊥ = clear 1 (λ e. omega arith) (λ e. omega arith) in
+    let c3 : x / 8 % 2 ≡ 1 → ⊥ = clear 3 (λ e. omega arith) (λ e. omega arith) in
+    omega (arith, digits x, flag-digit 2 x, flag-digit 4 x)
+
+latched : (x : ℕ) → Latches x → (k : ℕ) → bit k x ≡ true → (k ≡ 2) ⊎ (k ≡ 4)
+unfolding bit
+latched x l k b = go k (eqb-true _ _ b)
+  where
+    two : x ≡ 4 * (x / 4 % 2) + 16 * (x / 16 % 2)
+    two = omega (arith, l, flag-digit 2 x, flag-digit 4 x)
+
+    past : (n : ℕ) → 5 ≤ n → x / 2 ^ n % 2 ≡ 1 → ⊥
+    past n h e =
+        let above : 2 ^ 5 ≤ 2 ^ n = pow-mono {i = 5} {j = n} h in
+        let none : x / 2 ^ n ≡ 0 = div-eq-of-lt (omega (arith, two)) in
+        omega arith
+
+    go : (k : ℕ) → x / 2 ^ k % 2 ≡ 1 → (k ≡ 2) ⊎ (k ≡ 4)
+    go zero e = absurd (omega (arith, two, digits x, sym (ap (λ (y : ℕ). y % 2) (div-one x)) ∙ e))
+    go (suc zero) e = absurd (omega (arith, two, digits x))
+    go (suc (suc zero)) e = inl refl
+    go (suc (suc (suc zero))) e = absurd (omega (arith, two, digits x))
+    go (suc (suc (suc (suc zero)))) e = inr refl
+    go (suc (suc (suc (suc (suc k))))) e = absurd (past (suc (suc (suc (suc (suc k))))) (omega arith) e)
+
+-- A list by its places.
+each-place : (P : ℕ → Type 0) (l : List ℕ) → ((i : ℕ) → i < length l → P (getD l i 0)) → Each P l
+each-place P [] h = tt
+each-place P (x ∷ xs) h = (h 0 (omega arith), each-place P xs (λ i g. h (suc i) (omega arith)))
+
+distinct-places : (l : List ℕ) → Distinct l → (i j : ℕ) → i < length l → j < length l → getD l i 0 ≡ getD l j 0 → i ≡ j
+distinct-places [] d i j h g e = absurd (omega arith)
+distinct-places (x ∷ xs) d zero zero h g e = refl
+distinct-places (x ∷ xs) d zero (suc j) h g e = absurd (true≢false (sym (ap (λ (y : ℕ). member y xs) e ∙ member-at xs j (omega arith)) ∙ d .0))
+distinct-places (x ∷ xs) d (suc i) zero h g e = absurd (true≢false (sym (ap (λ (y : ℕ). member y xs) (sym e) ∙ member-at xs i (omega arith)) ∙ d .0))
+distinct-places (x ∷ xs) d (suc i) (suc j) h g e = ap suc (distinct-places xs (d .1) i j (omega arith) (omega arith) e)
+
+places-distinct : (l : List ℕ) → ((i j : ℕ) → i < length l → j < length l → getD l i 0 ≡ getD l j 0 → i ≡ j) → Distinct l
+places-distinct [] h = tt
+places-distinct (x ∷ xs) h = (
+  if-not (member x xs) (λ m. each-member (λ k. x ≡ k → ⊥) xs (each-place (λ k. x ≡ k → ⊥) xs (λ j g e. let f = h 0 (suc j) (omega arith) (omega arith) e in omega (arith, f))) x m refl),
+  places-distinct xs (λ i j a b e. let f = h (suc i) (suc j) (omega arith) (omega arith) e in omega (arith, f)),
+)
+
+-- The slots of a queue: 0 in each place behind the entries.
+pub blank-slots : (p : List ℕ) (c : ℕ) → c ≤ length p → Slots p c (take c p) ↔ ((i : ℕ) → c ≤ i → i < length p → getD p i 0 ≡ 0)
+blank-slots p c fits = (blank, λ b. record { many = sym (length-take-le c p fits); fits = fits; same = sym (ap (λ (l : List ℕ). take c p ++ l) (sym (rest b)) ∙ take-append-drop c p) })
+  where
+    blank : Slots p c (take c p) → (i : ℕ) → c ≤ i → i < length p → getD p i 0 ≡ 0
+    blank s i g h =
+        let e : i ≡ length (take c p) + (i - c) = omega (arith, length-take-le c p fits) in
+        ap₂ (λ (l : List ℕ) (n : ℕ). getD l n 0) (s .same) e
+        ∙ getD-append-add (take c p) (replicate (length p - c) 0) (i - c) 0
+        ∙ getD-replicate (length p - c) (i - c) 0 0 (omega arith)
+
+    rest : ((i : ℕ) → c ≤ i → i < length p → getD p i 0 ≡ 0) → drop c p ≡ replicate (length p - c) 0
+    rest b =
+        ext-getD 0 (drop c p) (replicate (length p - c) 0) (length-drop c p ∙ sym (length-replicate (length p - c) 0))
+        (λ i h. let g : i < length p - c = omega (arith, length-drop c p) in getD-drop c p i 0 ∙ b (c + i) (omega arith) (omega arith) ∙ sym (getD-replicate (length p - c) i 0 0 g))
+
+-- The entries of queue k, c of them, by their places in the 72 bytes.
+module _ (k c : ℕ) (q : List ℕ) (long : length q ≡ 72) (small : k < 3) (fits : c ≤ 24) where
+  slot : (i : ℕ) → i < 24 → getD (slots k q) i 0 ≡ slotAt (24 * k) q i
+  slot i h = getD-take 24 (drop (24 * k) q) i 0 h ∙ getD-drop (24 * k) q i 0
+
+  slots-long : length (slots k q) ≡ 24
+  slots-long = part-long k q long small
+
+  many : length (queueIn k c q) ≡ c
+  many = length-take-le c (slots k q) (omega (arith, slots-long))
+
+  entry : (i : ℕ) → i < c → getD (queueIn k c q) i 0 ≡ slotAt (24 * k) q i
+  entry i h = getD-take c (slots k q) i 0 h ∙ slot i (omega arith)
+
+  there : (i : ℕ) → i < c → member (slotAt (24 * k) q i) (queueIn k c q) ≡ true
+  there i h = ap (λ (x : ℕ). member x (queueIn k c q)) (sym (entry i h)) ∙ member-at (queueIn k c q) i (omega (arith, many))
+
+  -- what holds of every entry
+  all-entries : (P : ℕ → Type 0) → ((i : ℕ) → i < c → P (slotAt (24 * k) q i)) → (x : ℕ) → member x (queueIn k c q) ≡ true → P x
+  all-entries P h = each-member P (queueIn k c q) (each-place P (queueIn k c q) (λ i (g : i < length (queueIn k c q)). let l : i < c = omega (arith, many) in subst P (sym (entry i l)) (h i l)))
+
+  -- no entry stands twice
+  apart : Distinct (queueIn k c q) ↔ ((i j : ℕ) → i < c → j < c → slotAt (24 * k) q i ≡ slotAt (24 * k) q j → i ≡ j)
+  apart = (
+    λ d i j h g e. distinct-places (queueIn k c q) d i j (omega (arith, many)) (omega (arith, many)) (entry i h ∙ e ∙ sym (entry j g)),
+    λ f. places-distinct (queueIn k c q) (λ i j (h : i < length (queueIn k c q)) (g : j < length (queueIn k c q)) e. let a : i < c = omega (arith, many) in let b : j < c = omega (arith, many) in f i j a b (sym (entry i a) ∙ e ∙ entry j b)),
+  )
+
+  -- nothing stands behind them
+  blank : Slots (slots k q) c (queueIn k c q) ↔ ((i : ℕ) → c ≤ i → i < 24 → slotAt (24 * k) q i ≡ 0)
+  blank =
+      let both = blank-slots (slots k q) c (omega (arith, slots-long)) in (
+        λ s i g h. sym (slot i h) ∙ both .0 s i g (omega (arith, slots-long)),
+        λ b. both .1 (λ i g h. let l : i < 24 = omega (arith, slots-long) in slot i l ∙ b i g l),
+      )
+
+-- The same, where the slots tell that the entries fit.
+slots-fit : (k c : ℕ) (q : List ℕ) → length q ≡ 72 → k < 3 → Slots (slots k q) c (queueIn k c q) → c ≤ 24
+slots-fit k c q long small s = omega (arith, s .fits, part-long k q long small)
+
+module _ (s : List ℕ) (fits : (i : ℕ) → getD s i 0 < 2 ^ 32) where
+  pub sets-restated : SetsFormed s ↔ ((length s ≡ 24) × GoodPages 24 (map pagesOf s))
+  sets-restated = (
+    λ f. (f .count, as-lists 24 s fits (record { within = f .within; atMost = f .atMost; fresh = λ i p b. bit-zero p; once = f .once })),
+    λ g. let h = as-sets 24 s fits (g .1) in record { count = g .0; once = h .once; within = h .within; atMost = h .atMost },
+  )
+
+  -- allocated: the set is not 0
+  has : (k : ℕ) → 0 < getD s k 0 → some? (getD (map pagesOf s) k []) ≡ true
+  has k h = some-at s k (fits k) h
+
+  not-none : (k : ℕ) → some? (getD (map pagesOf s) k []) ≡ true → 0 < getD s k 0
+  not-none k e = go (getD s k 0) refl
+    where
+      go : (x : ℕ) → getD s k 0 ≡ x → 0 < getD s k 0
+      go zero z = absurd (true≢false (sym e ∙ none-at s k z))
+      go (suc x) z = omega arith
+
+  module _ (rx tx completion : ℕ) (q : List ℕ) where
+    abbrev Queues : Type 0
+    Queues = QueuesIn (rx ∷ tx ∷ completion ∷ []) q × GoodQueues 24 (map pagesOf s) (queueIn 0 rx q) (queueIn 1 tx q) (queueIn 2 completion q)
+
+    queues-as-lists : QueuesFormed rx tx completion s q → Queues
+    queues-as-lists f = (
+      record {
+        long = f .long;
+        rx = blank 0 rx q (f .long) (omega arith) (f .rxFits) .1 (f .rxBlank);
+        tx = blank 1 tx q (f .long) (omega arith) (f .txFits) .1 (f .txBlank);
+        completion = blank 2 completion q (f .long) (omega arith) (f .completionFew) .1 (f .completionBlank);
+      },
+      record {
+        rxAllocated = inRx (λ k. some? (getD (map pagesOf s) k []) ≡ true) (λ i h. has _ (f .rxAllocated i h));
+        txAllocated = inTx (λ k. some? (getD (map pagesOf s) k []) ≡ true) (λ i h. has _ (f .txAllocated i h));
+        rxDistinct = apart 0 rx q (f .long) (omega arith) (f .rxFits) .1 (f .rxDistinct);
+        txDistinct = apart 1 tx q (f .long) (omega arith) (f .txFits) .1 (f .txDistinct);
+        notBoth = inRx (λ k. member k (queueIn 1 tx q) ≡ false)
+            (λ i h. if-not (member (slotAt 0 q i) (queueIn 1 tx q)) (λ m. inTx (λ k. slotAt 0 q i ≡ k → ⊥) (λ j g. f .notBoth i j h g) (slotAt 0 q i) m refl));
+        completionFew = omega (arith, many 2 completion q (f .long) (omega arith) (f .completionFew), f .completionFew);
+        completionNumbers = all-entries 2 completion q (f .long) (omega arith) (f .completionFew) (λ k. k < 24) (f .completionNumbers);
+      },
+    )
+      where
+        inRx : (P : ℕ → Type 0) → ((i : ℕ) → i < rx → P (slotAt 0 q i)) → (k : ℕ) → member k (queueIn 0 rx q) ≡ true → P k
+        inRx = all-entries 0 rx q (f .long) (omega arith) (f .rxFits)
+
+        inTx : (P : ℕ → Type 0) → ((i : ℕ) → i < tx → P (slotAt 24 q i)) → (k : ℕ) → member k (queueIn 1 tx q) ≡ true → P k
+        inTx = all-entries 1 tx q (f .long) (omega arith) (f .txFits)
+
+    queues-as-bytes : Queues → QueuesFormed rx tx completion s q
+    queues-as-bytes (o, g) = record {
+      long = o .long;
+      rxFits = a;
+      txFits = b;
+      rxAllocated = λ i h. not-none _ (g .rxAllocated _ (inRx i h));
+      txAllocated = λ i h. not-none _ (g .txAllocated _ (inTx i h));
+      rxDistinct = apart 0 rx q (o .long) (omega arith) a .0 (g .rxDistinct);
+      txDistinct = apart 1 tx q (o .long) (omega arith) b .0 (g .txDistinct);
+      notBoth = λ i j h l e. true≢false (sym (inTx j l) ∙ ap (λ (k : ℕ). member k (queueIn 1 tx q)) (sym e) ∙ g .notBoth _ (inRx i h));
+      completionFew = c;
+      completionNumbers = λ i h. g .completionNumbers _ (there 2 completion q (o .long) (omega arith) c i h);
+      rxBlank = blank 0 rx q (o .long) (omega arith) a .0 (o .rx);
+      txBlank = blank 1 tx q (o .long) (omega arith) b .0 (o .tx);
+      completionBlank = blank 2 completion q (o .long) (omega arith) c .0 (o .completion);
+    }
+      where
+        a : rx ≤ 24
+        a = slots-fit 0 rx q (o .long) (omega arith) (o .rx)
+
+        b : tx ≤ 24
+        b = slots-fit 1 tx q (o .long) (omega arith) (o .tx)
+
+        c : completion ≤ 24
+        c = slots-fit 2 completion q (o .long) (omega arith) (o .completion)
+
+        inRx : (i : ℕ) → i < rx → member (slotAt 0 q i) (queueIn 0 rx q) ≡ true
+        inRx = there 0 rx q (o .long) (omega arith) a
+
+        inTx : (i : ℕ) → i < tx → member (slotAt 24 q i) (queueIn 1 tx q) ≡ true
+        inTx = there 1 tx q (o .long) (omega arith) b
+
+-- The words.
+pub words-restated : (w : List ℕ) → (FixedBytes w × NumbersFormed (word w 7) (word w 17)) ↔ (Kept w × GoodNumbers 24 (registersIn w .numbers))
+words-restated w = (
+  λ f. (
+    record { whole = f .0 .whole; fixed = record { bankHigh = omega (arith, f .0 .bankHigh, f .1 .bankSmall); reservedHigh = f .0 .reservedHigh; latched = latches (word w 13) (f .0 .latched); maskLow = f .0 .maskLow }; blank = f .0 .blank },
+    record { bankSmall = f .1 .bankSmall; packetSmall = f .1 .packetSmall; resultGood = f .1 .resultGood },
+  ),
+  λ g. (
+    record { whole = g .0 .whole; bankHigh = omega (arith, g .0 .fixed .bankHigh); reservedHigh = g .0 .fixed .reservedHigh; latched = latched (word w 13) (g .0 .fixed .latched); maskLow = g .0 .fixed .maskLow; blank = g .0 .blank },
+    record { bankSmall = g .1 .bankSmall; packetSmall = g .1 .packetSmall; resultGood = g .1 .resultGood },
+  ),
+)
+
+-- So the record is as it says here exactly where the public entries take it for a sound one of a well-formed chip.
+pub restated : (w s q : List ℕ) → ((i : ℕ) → getD s i 0 < 2 ^ 32) → RecordFormed w s q ↔ Ready w s q
+restated w s q fits = (
+  λ f.
+      let words = words-restated w .0 (f .fixed, f .numbers) in
+      let pages = sets-restated s fits .0 (f .sets) in
+      let queues = queues-as-lists s fits (word w 6) (word w 8) (word w 9) q (f .queues) in
+      record {
+        sound = record { kept = words .0; queues = queues .0; sets = pages .0 };
+        well = record { count = lists-length s ∙ pages .0; pages = pages .1; numbers = words .1; queues = queues .1 };
+      },
+  λ r.
+      let words = words-restated w .1 (r .sound .kept, r .well .numbers) in
+      record {
+        fixed = words .0;
+        numbers = words .1;
+        sets = sets-restated s fits .1 (r .sound .sets, r .well .pages);
+        queues = queues-as-bytes s fits (word w 6) (word w 8) (word w 9) q (r .sound .queues, r .well .queues);
+      },
+)

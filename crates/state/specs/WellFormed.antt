@@ -1,0 +1,75 @@
+-- Document 01's "A chip state is well formed exactly when .." said of the lent record itself: 32 words w, 24 page sets s (bit p for page p) and 72 bytes of queues q.
+-- A field for each clause, and for what the record has beside the chip. `Restated.restated`: this is what the public entries ask (`Ready`).
+use mathlib.Core.Path.{_≡_}
+use mathlib.Core.Bool.{true}
+use mathlib.Core.Logic.{_⊎_}
+use mathlib.Core.List.{List}
+use Prim.Native.Nat.{ℕ, _+_, _-_, _/_, _%_, _^_, _≤_, _<_}
+use lib.Count.{ones}
+use lib.ListN.{length, getD}
+use Rattle.rules.specs.Bits.{bit}
+use Rattle.state.specs.View.{word, counts, BlankIn}
+
+-- A packet's pages are its set. ("page lists ascend" says nothing of a set: it has no order.)
+pub record SetsFormed (s : List ℕ) : Type 0 where
+  -- "Packets are numbered 0 to 23": a set for each
+  pub count : length s ≡ 24
+  -- "no page is in two packets"
+  pub once : (i j p : ℕ) → bit p (getD s i 0) ≡ true → bit p (getD s j 0) ≡ true → i ≡ j
+  -- "pages are 0 to 23": bits 24 to 31 are clear
+  pub within : (i : ℕ) → getD s i 0 < 2 ^ 24
+  -- "an allocated packet has 1 to 8 and any other none": it is allocated where its set is not 0
+  pub atMost : (i : ℕ) → ones (getD s i 0) ≤ 8
+
+-- The byte at place i of the queue that begins at byte `at`: RX at 0, TX at 24, completion at 48.
+abbrev pub slotAt : ℕ → List ℕ → ℕ → ℕ
+slotAt at q i = getD q (at + i) 0
+
+-- The queues with so many entries, beside the page sets.
+pub record QueuesFormed (rx tx completion : ℕ) (s q : List ℕ) : Type 0 where
+  pub long : length q ≡ 72
+  pub rxFits : rx ≤ 24
+  pub txFits : tx ≤ 24
+  -- "RX and TX entries are allocated and distinct"
+  pub rxAllocated : (i : ℕ) → i < rx → 0 < getD s (slotAt 0 q i) 0
+  pub txAllocated : (i : ℕ) → i < tx → 0 < getD s (slotAt 24 q i) 0
+  pub rxDistinct : (i j : ℕ) → i < rx → j < rx → slotAt 0 q i ≡ slotAt 0 q j → i ≡ j
+  pub txDistinct : (i j : ℕ) → i < tx → j < tx → slotAt 24 q i ≡ slotAt 24 q j → i ≡ j
+  -- "no packet is in both"
+  pub notBoth : (i j : ℕ) → i < rx → j < tx → slotAt 0 q i ≡ slotAt 24 q j → ⊥
+  -- "completion has at most 24 entries, each 0 to 23"
+  pub completionFew : completion ≤ 24
+  pub completionNumbers : (i : ℕ) → i < completion → slotAt 48 q i < 24
+  -- a place behind a queue's end is 0
+  pub rxBlank : (i : ℕ) → rx ≤ i → i < 24 → slotAt 0 q i ≡ 0
+  pub txBlank : (i : ℕ) → tx ≤ i → i < 24 → slotAt 24 q i ≡ 0
+  pub completionBlank : (i : ℕ) → completion ≤ i → i < 24 → slotAt 48 q i ≡ 0
+
+-- The words that a clause of document 01 bounds.
+pub record NumbersFormed (bank packet : ℕ) : Type 0 where
+  -- "the bank is 0 to 7"
+  pub bankSmall : bank % 256 < 8
+  -- "the packet number register 0 to 63"
+  pub packetSmall : packet % 256 < 64
+  -- "the allocation result 0 to 23 or 80h"
+  pub resultGood : (packet / 256 < 24) ⊎ (packet / 256 ≡ 0x80)
+
+-- What no register has is fixed.
+pub record FixedBytes (w : List ℕ) : Type 0 where
+  pub whole : length w ≡ 32
+  -- "F reads 33h and is read-only, in every bank", and "B reads 33h, read-only"
+  pub bankHigh : word w 7 / 256 ≡ 0x33
+  pub reservedHigh : word w 5 / 256 ≡ 0x33
+  -- "2 TX EMPTY, latched" and "4 RX_OVRN, latched": no other bit is set
+  pub latched : (k : ℕ) → bit k (word w 13) ≡ true → (k ≡ 2) ⊎ (k ≡ 4)
+  -- the mask is a high byte
+  pub maskLow : word w 22 % 256 ≡ 0
+  -- the words that hold nothing are 0: those of MIR, command and heads, which a read finds, and those of no register, queue or latch
+  pub blank : BlankIn w
+
+-- all of it: the words' counts say how many entries a queue has
+pub record RecordFormed (w s q : List ℕ) : Type 0 where
+  pub fixed : FixedBytes w
+  pub numbers : NumbersFormed (word w 7) (word w 17)
+  pub sets : SetsFormed s
+  pub queues : QueuesFormed (word w 6) (word w 8) (word w 9) s q

@@ -1,0 +1,71 @@
+// Where in the lent state things stand.
+// A register's word stands at bank * 8 + offset / 2, as a word read gives it. What no word read gives (counts, latches) stands at places of no register.
+pub const TCR: usize = 0;
+
+pub const EPHSR: usize = 1;
+
+pub const RCR: usize = 2;
+
+pub const ECR: usize = 3;
+
+// counted for each read: the word itself is 0
+pub const MIR: usize = 4;
+
+// pages reserved for transmit; 33h in the high byte
+pub const RESERVED: usize = 5;
+
+// how many packets RX has
+pub const RX_COUNT: usize = 6;
+
+// the bank; 33h in the high byte
+pub const BANK: usize = 7;
+
+// how many packets TX has
+pub const TX_COUNT: usize = 8;
+
+// how many packets completion has
+pub const COMPLETION_COUNT: usize = 9;
+
+// three words: the station address
+pub const STATION: usize = 10;
+
+pub const STATION_1: usize = 11;
+
+pub const STATION_2: usize = 12;
+
+// TX EMPTY and RX_OVRN, at their places in interrupt status
+pub const LATCHES: usize = 13;
+
+pub const CONTROL: usize = 14;
+
+// the MMU command, which reads 0
+pub const COMMAND: usize = 16;
+
+// the packet number; the allocation result in the high byte
+pub const PACKET: usize = 17;
+
+// the heads of completion and of RX, found for each read: the word itself is 0
+pub const HEADS: usize = 18;
+
+pub const POINTER: usize = 19;
+
+// the mask, in the high byte; interrupt status is found for each read: the low byte itself is 0
+pub const INTERRUPT: usize = 22;
+
+// four words: the multicast table
+pub const TABLE: usize = 24;
+
+pub const TABLE_1: usize = 25;
+
+pub const TABLE_2: usize = 26;
+
+pub const TABLE_3: usize = 27;
+
+// Where the queues stand in their 72 bytes.
+pub const RX: usize = 0;
+
+pub const TX: usize = 24;
+
+pub const COMPLETION: usize = 48;
+
+pub const QUEUES_END: usize = 72;
