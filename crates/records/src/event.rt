@@ -1,6 +1,7 @@
 // What a record asks for.
 use state::Width;
 ghost use mathlib.Core.Path.{_≡_};
+ghost use lib.ListN.{length};
 ghost use Rattle.rules.specs.Bench.{eventOf};
 ghost use Rattle.records.specs.Event.{meant};
 
@@ -14,8 +15,9 @@ pub enum Event {
     Unknown,
 }
 
-pub fn event_of(bytes: [u8; 8]) -> Event
-    ensures { λ r. ⌜ meant r bytes ≡ eventOf bytes ⌝ }
+pub fn event_of(bytes: &[u8]) -> Event
+    requires { ⌜ length (now bytes) ≡ 8 ⌝ }
+    ensures { λ r. ⌜ meant r (now (bytes .entry)) ≡ eventOf (now (bytes .entry)) ⌝ }
 {
     let kind = bytes[0];
     match kind {

@@ -11,9 +11,9 @@ pub enum Gathering {
 }
 
 // The first `have` bytes of the buffer are gathered; `count` of the record's, from its byte 2 on, are to follow.
-pub fn gathered(wire: &mut [u8], have: usize, bytes: [u8; 8], count: u8) -> Gathering
-    requires { ⌜ (length (now wire) ≡ 2048) × (have ≤ 2048) ⌝ }
-    ensures { λ r. ⌜ Gathers (now (wire .entry)) have bytes count (now (wire .exit)) r ⌝ }
+pub fn gathered(wire: &mut [u8], have: usize, bytes: &[u8], count: u8) -> Gathering
+    requires { ⌜ (length (now wire) ≡ 2048) × (have ≤ 2048) × (length (now bytes) ≡ 8) ⌝ }
+    ensures { λ r. ⌜ Gathers (now (wire .entry)) have (now (bytes .entry)) count (now (wire .exit)) r ⌝ }
 {
     let n = count as usize;
     if n < 1 {

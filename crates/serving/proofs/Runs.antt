@@ -1,10 +1,10 @@
 -- Records answered one after another.
 use mathlib.Core.Path.{_≡_, refl, ap, ap₂, sym, _∙_}
-use mathlib.Core.List.{List, [], _∷_, _++_, append-assoc}
-use Prim.Native.Nat.{ℕ, suc, _+_, _≤_, _<_}
+use mathlib.Core.List.{List, _++_, append-assoc}
+use Prim.Native.Nat.{ℕ, suc, _+_, _≤_}
 use native.Mathlib.Omega.{arith}
-use lib.ListN.{length, take, drop, getD, length-append}
-use lib.Seq.{length-take-le, take-at, drop-cons}
+use lib.ListN.{length, take, drop, length-append}
+use lib.Seq.{length-take-le, take-at}
 use Rattle.rules.specs.Bench.{Bench, Answered, answer, eventOf, line}
 use Rattle.lists.specs.Written.{Writes}
 use Rattle.state.specs.declared.Answer.{Answer}
@@ -14,29 +14,6 @@ use Rattle.records.specs.Gathers.{holding}
 use Rattle.serving.specs.Turns.{Held, Turns}
 use Rattle.serving.specs.Batch as batch
 use Rattle.serving.specs.Batch.{recordAt, benchAfter, linesFor}
-
--- The first of some bytes of a list, and the rest of them.
-first-of : (n : ℕ) (l : List ℕ) (i k : ℕ) → i + k < length l → take (suc n) (drop (i + k) l) ≡ getD l (i + k) 0 ∷ take n (drop (i + suc k) l)
-first-of n l i k h =
-    let e : suc (i + k) ≡ i + suc k = omega arith in
-    ap (take (suc n)) (drop-cons l (i + k) 0 h) ∙ ap (λ (j : ℕ). getD l (i + k) 0 ∷ take n (drop j l)) e
-
--- Eight bytes of a list.
-pub eight : (l : List ℕ) (i : ℕ) → i + 8 ≤ length l
-    → take 8 (drop i l) ≡ getD l i 0 ∷ getD l (i + 1) 0 ∷ getD l (i + 2) 0 ∷ getD l (i + 3) 0 ∷ getD l (i + 4) 0 ∷ getD l (i + 5) 0 ∷ getD l (i + 6) 0 ∷ getD l (i + 7) 0 ∷ []
-eight l i h =
-    let e : i + 0 ≡ i = omega arith in
-    let f : take 8 (drop i l) ≡ getD l i 0 ∷ take 7 (drop (i + 1) l) = rw e at (first-of 7 l i 0 (omega arith)) in
-    rw (
-      f,
-      first-of 6 l i 1 (omega arith),
-      first-of 5 l i 2 (omega arith),
-      first-of 4 l i 3 (omega arith),
-      first-of 3 l i 4 (omega arith),
-      first-of 2 l i 5 (omega arith),
-      first-of 1 l i 6 (omega arith),
-      first-of 0 l i 7 (omega arith),
-    )
 
 -- What stands before the place behind a piece of text: what stood before it, and the text.
 taken : {before after text : List ℕ} {at end : ℕ} → at ≤ length before → Writes before at text after end → take end after ≡ take at before ++ text

@@ -2,9 +2,8 @@
 use crate::turn::answer;
 use records::Counter;
 use state::Answer;
-ghost use mathlib.Core.Path.{_≡_};
 ghost use Prim.Native.Nat.{_+_, _/_, _≤_};
-ghost use lib.ListN.{length, take, drop};
+ghost use lib.ListN.{length, take};
 ghost use Rattle.rules.specs.Bench.{line};
 ghost use Rattle.lists.specs.Written.{Writes};
 ghost use Rattle.state.specs.Meaning.{replyOf};
@@ -13,23 +12,6 @@ ghost use Rattle.records.specs.Counting.{Counts};
 ghost use Rattle.records.specs.Gathers.{holding};
 ghost use Rattle.serving.specs.Turns.{Held};
 ghost use Rattle.serving.specs.Batch.{Answered};
-
-// The eight bytes of the record at a place of the input.
-fn record_at(input: &[u8], at: usize) -> [u8; 8]
-    requires { ⌜ at + 8 ≤ length (now input) ⌝ }
-    ensures { λ b. ⌜ b ≡ take 8 (drop at (now (input .entry))) ⌝ }
-{
-    [
-        input[at],
-        input[at + 1],
-        input[at + 2],
-        input[at + 3],
-        input[at + 4],
-        input[at + 5],
-        input[at + 6],
-        input[at + 7],
-    ]
-}
 
 // The line of a record; returns the place behind it.
 pub fn print(lines: &mut [u8], at: usize, counter: Counter, answer: Answer) -> usize
@@ -58,15 +40,15 @@ pub fn answer_all(
     ensures answered { λ _. ⌜ Answered (length (now (input .entry)) / 8) (now (number .entry)) (now (input .entry)) (holding (view (now (words .entry)) (now (sets .entry)) (now (queues .entry)) (now (memory .entry))) (take (now (have .entry)) (now (wire .entry))) (now (out .entry))) (now (words .exit)) (now (sets .exit)) (now (queues .exit)) (now (memory .exit)) (now (wire .exit)) (now (have .exit)) (now (out .exit)) (now (lines .exit)) (now (end .exit)) (now (number .exit)) ⌝ }
     ensures fits { λ _. ⌜ now (end .exit) ≤ 32768 ⌝ }
 {
-    let mut at = 0;
+    let mut k = 0;
     *end = 0;
     let mut counter = records::counter_of(*number);
-    while at + 8 <= input.len() {
-        let bytes = record_at(input, at);
-        at += 8;
+    while k < input.len() / 8 {
+        let bytes = &input[8 * k..8 * k + 8];
         let given = answer(words, sets, queues, memory, wire, have, out, bytes);
         *end = print(lines, *end, counter, given);
         counter = records::next(counter);
+        k += 1;
     }
     *number = counter.number;
 }

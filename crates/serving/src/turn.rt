@@ -15,9 +15,9 @@ ghost use Rattle.state.specs.Entry.{Right};
 ghost use Rattle.serving.specs.Turns.{Held, Turns, Gathered};
 
 // Wire bytes join those gathered, or are refused.
-fn gather_more(wire: &mut [u8], have: &mut usize, bytes: [u8; 8], count: u8) -> Answer
-    requires { ⌜ (length (now wire) ≡ 2048) × (now have ≤ 2048) ⌝ }
-    ensures { λ a. ⌜ Gathered (now (wire .entry)) (now (have .entry)) bytes count a (now (wire .exit)) (now (have .exit)) ⌝ }
+fn gather_more(wire: &mut [u8], have: &mut usize, bytes: &[u8], count: u8) -> Answer
+    requires { ⌜ (length (now wire) ≡ 2048) × (now have ≤ 2048) × (length (now bytes) ≡ 8) ⌝ }
+    ensures { λ a. ⌜ Gathered (now (wire .entry)) (now (have .entry)) (now (bytes .entry)) count a (now (wire .exit)) (now (have .exit)) ⌝ }
 {
     let gathering = records::gathered(wire, *have, bytes, count);
     match gathering {
@@ -57,10 +57,10 @@ pub fn answer(
     wire: &mut [u8],
     have: &mut usize,
     out: &mut [u8],
-    bytes: [u8; 8],
+    bytes: &[u8],
 ) -> Answer
-    requires { ⌜ Held (now words) (now sets) (now queues) (now memory) (now wire) (now have) ⌝ }
-    ensures { λ a. ⌜ Turns (rules.answer (rules.eventOf bytes) (holding (view (now (words .entry)) (now (sets .entry)) (now (queues .entry)) (now (memory .entry))) (take (now (have .entry)) (now (wire .entry))) (now (out .entry)))) a (now (words .exit)) (now (sets .exit)) (now (queues .exit)) (now (memory .exit)) (now (wire .exit)) (now (have .exit)) (now (out .exit)) ⌝ }
+    requires { ⌜ Held (now words) (now sets) (now queues) (now memory) (now wire) (now have) × (length (now bytes) ≡ 8) ⌝ }
+    ensures { λ a. ⌜ Turns (rules.answer (rules.eventOf (now (bytes .entry))) (holding (view (now (words .entry)) (now (sets .entry)) (now (queues .entry)) (now (memory .entry))) (take (now (have .entry)) (now (wire .entry))) (now (out .entry)))) a (now (words .exit)) (now (sets .exit)) (now (queues .exit)) (now (memory .exit)) (now (wire .exit)) (now (have .exit)) (now (out .exit)) ⌝ }
 {
     let event = records::event_of(bytes);
     match event {

@@ -9,40 +9,40 @@ use Rattle.records.proofs.event.event_of.Tie as tie
 
 -- the record is of kind k
 abbrev Kind : tie.Start → ℕ → Type 0
-Kind s k = at (s .args .t1) 0 ≡ k
+Kind s k = at (s .args .bytes .now) 0 ≡ k
 
 returns : tie.Need-returns
 unfolding eventOf
-returns c = let e : Kind (c .before) 1 = c .match .keys1 in rw e
+returns c = let e : Kind (c .before .before .before .before) 1 = c .before .match .keys1 in rw e
 
 returns-2 : tie.Need-returns-2
 unfolding eventOf
-returns-2 c = let e : Kind (c .before) 2 = c .match .keys2 in rw e
+returns-2 c = let e : Kind (c .before .before .before .before) 2 = c .before .match .keys2 in rw e
 
 returns-3 : tie.Need-returns-3
 unfolding eventOf
-returns-3 c = let e : Kind (c .before .before) 3 = c .before .match .keys3 in rw (e, c .word .ensures)
+returns-3 c = let e : Kind (c .before .before .before .before .before .before .before) 3 = c .before .before .before .before .match .keys3 in rw (e, c .word .ensures)
 
 returns-4 : tie.Need-returns-4
 unfolding eventOf
-returns-4 c = let e : Kind (c .before .before) 4 = c .before .match .keys4 in rw (e, c .word2 .ensures)
+returns-4 c = let e : Kind (c .before .before .before .before .before .before .before) 4 = c .before .before .before .before .match .keys4 in rw (e, c .word2 .ensures)
 
 returns-5 : tie.Need-returns-5
 unfolding eventOf
-returns-5 c = let e : Kind (c .before) 5 = c .match .keys5 in rw e
+returns-5 c = let e : Kind (c .before .before .before .before) 5 = c .before .match .keys5 in rw e
 
 returns-6 : tie.Need-returns-6
 unfolding eventOf
-returns-6 c = let e : Kind (c .before .before .before) 6 = c .before .before .match .keys6 in rw (e, c .before .byte-is-set .ensures, c .byte-is-set2 .ensures)
+returns-6 c = let e : Kind (c .before .before .before .before .before .before .before) 6 = c .before .before .before .before .match .keys6 in rw (e, c .before .before .byte-is-set .ensures, c .byte-is-set2 .ensures)
 
 returns-7 : tie.Need-returns-7
 unfolding eventOf
-returns-7 c = let e : Kind (c .before) 7 = c .match .keys7 in rw e
+returns-7 c = let e : Kind (c .before .before .before .before .before .before) 7 = c .before .before .before .match .keys7 in rw e
 
 returns-8 : tie.Need-returns-8
 unfolding eventOf
 returns-8 c =
-    let k = at (c .before .args .t1) 0 in
+    let k = at (c .before .before .before .args .bytes .now) 0 in
     let n = c .match .rest in
     rw (
       ne-eqb k 1 (n .0 .0 .0 .0 .0 .0 .1),

@@ -16,33 +16,33 @@ told bytes e q = sym e ∙ ap (λ (j : Event). meant j bytes) q
 
 returns : tie.Need-returns
 returns c =
-    let s = c .before .before .before .before .before .before .before .before .before .before .before .before .before .before .before .before .before in
-    turns-as _ (told (s .args .bytes) (c .before .before .before .before .before .before .before .before .before .before .event-of .ensures) (c .before .before .before .before .before .before .before .before .event .given .1)) (access-turns (s .args .words .now) (s .args .sets .now) (s .args .queues .now) (s .args .memory .now) (s .args .wire .now) (s .args .have .now) (s .args .out .now) (s .pre) _ _ _ _ _ _ (c .before .before .read .ensures))
+    let s = c .before .before .before .before .before .before .before .before .before .before .before .before .before .before .before .before .before .before in
+    turns-as _ (told (s .args .bytes .now) (c .before .before .before .before .before .before .before .before .before .before .event-of .ensures) (c .before .before .before .before .before .before .before .before .event .given .1)) (access-turns (s .args .words .now) (s .args .sets .now) (s .args .queues .now) (s .args .memory .now) (s .args .wire .now) (s .args .have .now) (s .args .out .now) (s .pre .0) _ _ _ _ _ _ (c .before .before .read .ensures))
 
 returns-2 : tie.Need-returns-2
 returns-2 c =
-    let s = c .before .before .before .before .before .before .before .before .before .before .before .before .before .before .before .before .before .before .before .before .before .before .before in
-    turns-as _ (told (s .args .bytes) (c .before .before .before .before .before .before .before .before .before .before .before .before .before .before .before .before .event-of .ensures) (c .before .before .before .before .before .before .before .before .before .before .before .before .before .before .event2 .given .1)) (access-turns (s .args .words .now) (s .args .sets .now) (s .args .queues .now) (s .args .memory .now) (s .args .wire .now) (s .args .have .now) (s .args .out .now) (s .pre) _ _ _ _ _ _ (c .before .before .before .before .before .before .before .before .write .ensures))
+    let s = c .before .before .before .before .before .before .before .before .before .before .before .before .before .before .before .before .before .before .before .before .before .before .before .before in
+    turns-as _ (told (s .args .bytes .now) (c .before .before .before .before .before .before .before .before .before .before .before .before .before .before .before .before .event-of .ensures) (c .before .before .before .before .before .before .before .before .before .before .before .before .before .before .event2 .given .1)) (access-turns (s .args .words .now) (s .args .sets .now) (s .args .queues .now) (s .args .memory .now) (s .args .wire .now) (s .args .have .now) (s .args .out .now) (s .pre .0) _ _ _ _ _ _ (c .before .before .before .before .before .before .before .before .write .ensures))
 
 returns-3 : tie.Need-returns-3
 returns-3 c =
-    let s = c .before .before .before .before .before .before .before .before .before .before .before .before .before .before .before in
-    turns-as _ (told (s .args .bytes) (c .before .before .before .before .before .before .before .before .event-of .ensures) (c .before .before .before .before .before .before .event3 .given .1)) (wire-turns (s .args .words .now) (s .args .sets .now) (s .args .queues .now) (s .args .memory .now) (s .args .wire .now) (s .args .have .now) (s .args .out .now) (s .pre) _ _ _ _ _ (c .before .before .gather-more .ensures))
+    let s = c .before .before .before .before .before .before .before .before .before .before .before .before .before .before .before .before in
+    turns-as _ (told (s .args .bytes .now) (c .before .before .before .before .before .before .before .before .event-of .ensures) (c .before .before .before .before .before .before .event3 .given .1)) (wire-turns (s .args .words .now) (s .args .sets .now) (s .args .queues .now) (s .args .memory .now) (s .args .wire .now) (s .args .have .now) (s .args .out .now) (s .pre .0) _ _ _ _ _ (c .before .before .gather-more .ensures))
 
 returns-4 : tie.Need-returns-4
 returns-4 c =
-    let s = c .before .before .before .before .before .before .before .before .before .before .before .before .before .before .before .before .before .before .before .before .before .before .before .before .before in
-    turns-as _ (told (s .args .bytes) (c .before .before .before .before .before .before .before .before .before .before .before .before .before .before .before .before .before .before .event-of .ensures) (c .before .before .before .before .before .before .before .before .before .before .before .before .before .before .before .before .event4 .given .1)) (frame-turns (s .args .words .now) (s .args .sets .now) (s .args .queues .now) (s .args .memory .now) (s .args .wire .now) (s .args .have .now) (s .args .out .now) (s .pre) _ _ _ _ _ _ _ _ (c .before .before .before .before .before .before .before .before .frame-ends .ensures))
+    let s = c .before .before .before .before .before .before .before .before .before .before .before .before .before .before .before .before .before .before .before .before .before .before .before .before .before .before in
+    turns-as _ (told (s .args .bytes .now) (c .before .before .before .before .before .before .before .before .before .before .before .before .before .before .before .before .before .before .event-of .ensures) (c .before .before .before .before .before .before .before .before .before .before .before .before .before .before .before .before .event4 .given .1)) (frame-turns (s .args .words .now) (s .args .sets .now) (s .args .queues .now) (s .args .memory .now) (s .args .wire .now) (s .args .have .now) (s .args .out .now) (s .pre .0) _ _ _ _ _ _ _ _ (c .before .before .before .before .before .before .before .before .frame-ends .ensures))
 
 returns-5 : tie.Need-returns-5
 returns-5 c =
-    let s = c .before .before .before .before .before .before .before .before .before .before .before .before .before .before .before .before .before .before .before .before .before .before .before .before .before .before in
-    turns-as _ (told (s .args .bytes) (c .before .before .before .before .before .before .before .before .before .before .before .before .before .before .before .before .before .before .before .event-of .ensures) (c .before .before .before .before .before .before .before .before .before .before .before .before .before .before .before .before .before .event5 .given .1)) (send-turns (s .args .words .now) (s .args .sets .now) (s .args .queues .now) (s .args .memory .now) (s .args .wire .now) (s .args .have .now) (s .args .out .now) (s .pre) _ _ _ _ _ _ _ (c .before .before .before .before .before .before .before .before .before .before .finished .ensures))
+    let s = c .before .before .before .before .before .before .before .before .before .before .before .before .before .before .before .before .before .before .before .before .before .before .before .before .before .before .before in
+    turns-as _ (told (s .args .bytes .now) (c .before .before .before .before .before .before .before .before .before .before .before .before .before .before .before .before .before .before .before .event-of .ensures) (c .before .before .before .before .before .before .before .before .before .before .before .before .before .before .before .before .before .event5 .given .1)) (send-turns (s .args .words .now) (s .args .sets .now) (s .args .queues .now) (s .args .memory .now) (s .args .wire .now) (s .args .have .now) (s .args .out .now) (s .pre .0) _ _ _ _ _ _ _ (c .before .before .before .before .before .before .before .before .before .before .finished .ensures))
 
 returns-6 : tie.Need-returns-6
 returns-6 c =
-    let s = c .before .before .before .before .before .before .before .before .before in
-    turns-as _ (told (s .args .bytes) (c .before .before .event-of .ensures) (c .enum-told .given .1)) (unknown-turns (s .args .words .now) (s .args .sets .now) (s .args .queues .now) (s .args .memory .now) (s .args .wire .now) (s .args .have .now) (s .args .out .now) (s .pre))
+    let s = c .before .before .before .before .before .before .before .before .before .before in
+    turns-as _ (told (s .args .bytes .now) (c .before .before .event-of .ensures) (c .enum-told .given .1)) (unknown-turns (s .args .words .now) (s .args .sets .now) (s .args .queues .now) (s .args .memory .now) (s .args .wire .now) (s .args .have .now) (s .args .out .now) (s .pre .0))
 
 pub answer-spec : {M : Type 1} → statement M
 answer-spec =
@@ -50,15 +50,15 @@ answer-spec =
     (tie.spec
     (λ c κs. search needs)
     (λ c. search needs)
-    (λ c κs. c .before .before .before .before .before .before .before .before .before .before .before .before .before .before .pre .chip)
+    (λ c κs. c .before .before .before .before .before .before .before .before .before .before .before .before .before .before .before .pre .0 .chip)
     (λ c. search needs)
-    (λ c κs. c .before .before .before .before .before .before .before .before .before .before .before .before .before .before .pre .chip)
+    (λ c κs. c .before .before .before .before .before .before .before .before .before .before .before .before .before .before .before .pre .0 .chip)
     (λ c. search needs)
-    (λ c κs. (c .before .before .before .before .before .before .before .before .before .before .before .before .pre .room, c .before .before .before .before .before .before .before .before .before .before .before .before .pre .few))
+    (λ c κs. (c .before .before .before .before .before .before .before .before .before .before .before .before .before .pre .0 .room, c .before .before .before .before .before .before .before .before .before .before .before .before .before .pre .0 .few, c .before .before .before .before .before .before .before .before .before .before .before .before .before .pre .1))
     (λ c. search needs)
-    (λ c κs. c .before .before .before .before .before .before .before .before .before .before .before .before .before .before .before .before .pre)
+    (λ c κs. c .before .before .before .before .before .before .before .before .before .before .before .before .before .before .before .before .before .pre .0)
     (λ c. search needs)
-    (λ c κs. c .before .before .before .before .before .before .before .before .before .before .before .before .before .before .before .pre .chip)
+    (λ c κs. c .before .before .before .before .before .before .before .before .before .before .before .before .before .before .before .before .pre .0 .chip)
     (λ c. search needs)
     (λ c. search needs)
     (λ c. search needs)
