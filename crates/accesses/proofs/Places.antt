@@ -1,4 +1,4 @@
--- The last arm: what is left of the 64 places is data below 22, and unused above.
+-- The last arm. For a read: what is left of the 64 places is data below 22, and unused above. For a write, which has arms for the unused: what is left is data.
 use mathlib.Core.Path.{_≡_, refl, ap, sym}
 use mathlib.Core.Bool.{Bool, true, false, _&&_, _||_, true≢false}
 use mathlib.Core.List.{List, []}
@@ -51,3 +51,11 @@ data-left arms e at h l = go (eqb at 20) refl (left-over (λ (k : ℕ). leb 22 k
     go : (b : Bool) → eqb at 20 ≡ b → leb 22 at || (b || eqb at 21) ≡ true → registerIn at ≡ DATA
     go true x y = ap registerIn (eqb-true at 20 x)
     go false x y = ap registerIn (eqb-true at 21 (rw (lt-leb 22 at h) at y))
+
+pub data-alone : (arms : List (List ℕ)) → passed (λ (k : ℕ). inSome k arms || inData k) 64 ≡ true → (at : ℕ) → at < 64 → Left arms at → registerIn at ≡ DATA
+unfolding registerIn registerAt
+data-alone arms e at h l = go (eqb at 20) refl (left-over inData arms 64 e at h l)
+  where
+    go : (b : Bool) → eqb at 20 ≡ b → b || eqb at 21 ≡ true → registerIn at ≡ DATA
+    go true x y = ap registerIn (eqb-true at 20 x)
+    go false x y = ap registerIn (eqb-true at 21 y)

@@ -56,7 +56,7 @@ pub fn read(
     let at = words[BANK] as usize % 8 * 8 + offset as usize / 2;
     match at {
         ECR => gives(width, offset, registers::read_ecr(words)),
-        MIR => gives(width, offset, registers::mir(sets)),
+        MIR => gives(width, offset, words[MIR]),
         HEADS => gives(width, offset, registers::heads(words, queues)),
         INTERRUPT => gives(width, offset, registers::interrupt(words)),
         // the bank, at offset E of every bank

@@ -49,7 +49,7 @@ fn write_command(
     commands::commanded(words, sets, queues, bits::low_byte(value))
 }
 
-// The table is as that of `read`.
+// The table is as that of `read`, but that banks 5 to 7 have their arms here, so that what is left is data.
 pub fn write(
     words: &mut [u16],
     sets: &mut [u32],
@@ -84,13 +84,9 @@ pub fn write(
             registers::write_word(words, at, width, offset, value)
         }
         STATION_1 | TABLE_1 | TABLE_3 => { registers::write_word(words, at, width, offset, value) }
-        _ => {
-            if at < INTERRUPT {
-                data::write_data(words, sets, queues, memory, is_wide(width), value)
-            } else {
-                // banks 5 to 7: ignored
-                Answer::Done(0)
-            }
-        }
+        // banks 5 to 7: ignored
+        40 | 42 | 44 | 46 | 48 | 50 | 52 | 54 | 56 | 58 | 60 | 62 => Answer::Done(0),
+        41 | 43 | 45 | 49 | 51 | 53 | 57 | 59 | 61 => Answer::Done(0),
+        _ => data::write_data(words, sets, queues, memory, is_wide(width), value),
     }
 }

@@ -11,11 +11,12 @@ pub fn power_up() -> Returned
     ensures { λ x. ⌜ Started x ⌝ }
 {
     let mut words = [0; 32];
+    let mut sets = [0; 24];
+    let mut slots = [0; 72];
     registers::reset_words(&mut words);
+    pool::reset(&mut words, &mut sets, &mut slots);
     let registers = Registers { words };
-    let sets = [0; 24];
     let pages = Pages { sets };
-    let slots = [0; 72];
     let queues = Queues { slots };
     let answer = Answer::Done(0);
     Returned {

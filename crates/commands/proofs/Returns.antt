@@ -7,7 +7,7 @@ use lib.ListN.{length, getD}
 use Rattle.rules.specs.Lists.{member, some?}
 use Rattle.rules.specs.Chip.{Registers, Pool, Chip, size, emptyPool}
 use Rattle.rules.specs.Answers.{Effect, did}
-use Rattle.rules.specs.Fields.{setResult, setPages, inRegisters, inPool}
+use Rattle.rules.specs.Fields.{setResult, inRegisters, inPool}
 use Rattle.rules.specs.Mmu.{Command, reset, perform, ifIdle}
 use Rattle.sets.specs.Views.{pagesOf}
 use Rattle.sets.specs.Lists.{lists-length}
@@ -25,13 +25,6 @@ module _ (k : Command) (w s q mem : List ℕ) where
   pub performs : (f : Chip → Chip) {w′ s′ q′ : List ℕ} → perform k (view w s q mem) ≡ did (f (view w s q mem))
       → view w′ s′ q′ mem ≡ f (view w s q mem) → Sound w′ s′ q′ → Makes (perform k (view w s q mem)) (Done 0) w′ s′ q′ mem
   performs f p e o = rw p (record { chip = e; reply = refl; sound = o })
-
-  -- done, with other page sets, whose lists are `ls`, beside words and queues that may have changed before
-  pub performs-paged : (f : Chip → Chip) (ls : List (List ℕ)) {w′ s′ q′ : List ℕ} → perform k (view w s q mem) ≡ did (f (view w s q mem))
-      → map pagesOf s′ ≡ ls → length ls ≡ 24 → Sound w′ s q′ → inPool (setPages ls) (view w′ s q′ mem) ≡ f (view w s q mem) → Makes (perform k (view w s q mem)) (Done 0) w′ s′ q′ mem
-  performs-paged f ls {w′} {s′} {q′} p e long o same =
-      performs f p (ap (λ (x : List (List ℕ)). inPool (setPages x) (view w′ s q′ mem)) e ∙ same)
-      (record { kept = o .kept; queues = o .queues; sets = sym (lists-length s′) ∙ ap length e ∙ long })
 
   -- nothing changes: a refusal, and 00h
   pub unchanged : (a : Answer) → Sound w s q → perform k (view w s q mem) ≡ record { reply = replyOf a; chip = view w s q mem } → Makes (perform k (view w s q mem)) a w s q mem

@@ -12,16 +12,14 @@ use sets::Packet;
 use state::Answer;
 use state::NO_PACKET;
 use state::PACKET;
-ghost use mathlib.Core.Path.{_≡_};
 ghost use mathlib.Core.List.{List, map};
 ghost use Prim.Native.Nat.{ℕ, _≤_};
-ghost use lib.ListN.{length};
 ghost use Rattle.rules.specs.Fields.{setResult};
 ghost use Rattle.rules.specs.Mmu as rules;
 ghost use Rattle.rules.specs.WellFormed.{GoodPages};
 ghost use Rattle.sets.specs.Views.{pagesOf};
-ghost use Rattle.state.specs.View.{view, counts, Kept};
-ghost use Rattle.state.specs.Promise.{Sets, QueuesIn, Sound, Ready, Makes};
+ghost use Rattle.state.specs.View.{view, figures, Kept};
+ghost use Rattle.state.specs.Promise.{Sets, QueuesIn, SetsIn, Sound, Ready, Makes};
 ghost use Rattle.commands.specs.Orders.{Performs};
 
 // The commands of the MMU command register.
@@ -46,12 +44,12 @@ fn give_result(words: &mut [u16], k: u8)
 }
 
 fn do_allocate(words: &mut [u16], sets: &mut [u32], need: u32) -> Answer
-    requires { ⌜ (1 ≤ need) × Kept (now words) × (length (now sets) ≡ 24) × GoodPages 24 (map pagesOf (now sets)) ⌝ }
-    ensures { λ a. ⌜ ((q : List ℕ) → QueuesIn (counts (now (words .entry))) q → Performs (rules.allocate need) (now (words .entry)) (now (sets .entry)) q a (now (words .exit)) (now (sets .exit)) q) ⌝ }
+    requires { ⌜ (1 ≤ need) × (need ≤ 8) × Kept (now words) × SetsIn (figures (now words)) (now sets) × GoodPages 24 (map pagesOf (now sets)) ⌝ }
+    ensures { λ a. ⌜ ((q : List ℕ) → QueuesIn (figures (now (words .entry))) q → Performs (rules.allocate need) (now (words .entry)) (now (sets .entry)) q a (now (words .exit)) (now (sets .exit)) q) ⌝ }
 {
-    if need <= sets::free_count(sets) {
+    if need <= pool::free_count(words) {
         let k = sets::lowest_unallocated(sets) as u8;
-        sets::granted(sets, Packet(k), need);
+        pool::grant(words, sets, Packet(k), need);
         give_result(words, k);
         return Answer::Done(0);
     }
@@ -69,8 +67,8 @@ fn do_reset(words: &mut [u16], sets: &mut [u32], queues: &mut [u8]) -> Answer
 }
 
 fn do_reset_tx(words: &mut [u16], queues: &mut [u8]) -> Answer
-    requires { ⌜ Kept (now words) × QueuesIn (counts (now words)) (now queues) ⌝ }
-    ensures { λ a. ⌜ ((s : List ℕ) → length s ≡ 24 → Performs rules.resetTx (now (words .entry)) s (now (queues .entry)) a (now (words .exit)) s (now (queues .exit))) ⌝ }
+    requires { ⌜ Kept (now words) × QueuesIn (figures (now words)) (now queues) ⌝ }
+    ensures { λ a. ⌜ ((s : List ℕ) → SetsIn (figures (now (words .entry))) s → Performs rules.resetTx (now (words .entry)) s (now (queues .entry)) a (now (words .exit)) s (now (queues .exit))) ⌝ }
 {
     pool::empty_tx(words, queues);
     pool::empty_completion(words, queues);
@@ -89,7 +87,7 @@ pub fn commanded(words: &mut [u16], sets: &mut [u32], queues: &mut [u8], value: 
         Order::Reset => do_reset(words, sets, queues),
         Order::RemoveRx => do_remove(words, queues),
         Order::RemoveAndRelease => do_remove_and_release(words, sets, queues),
-        Order::Release => do_release(words, sets, queues),
+        Order::Release => do_release(words, sets),
         Order::Enqueue => do_enqueue(words, sets, queues),
         Order::ResetTx => do_reset_tx(words, queues),
         Order::Unknown => Answer::Reserved,

@@ -3,14 +3,15 @@ use sets::Packet;
 use state::Answer;
 use state::PACKET;
 ghost use mathlib.Core.Path.{_≡_};
-ghost use mathlib.Core.List.{[], map};
-ghost use Prim.Native.Nat.{_%_};
+ghost use mathlib.Core.List.{List, [], map};
+ghost use Prim.Native.Nat.{ℕ, _%_};
 ghost use lib.ListN.{getD};
 ghost use Rattle.rules.specs.Lists.{some?};
 ghost use Rattle.rules.specs.Mmu as rules;
+ghost use Rattle.rules.specs.WellFormed.{GoodPages};
 ghost use Rattle.sets.specs.Views.{pagesOf};
-ghost use Rattle.state.specs.View.{word, Kept};
-ghost use Rattle.state.specs.Promise.{Ready};
+ghost use Rattle.state.specs.View.{word, figures, Kept};
+ghost use Rattle.state.specs.Promise.{SetsIn, Ready};
 ghost use Rattle.commands.specs.Orders.{Performs};
 
 // The packet that the register names.
@@ -28,18 +29,18 @@ fn is_allocated(sets: &[u32], packet: Packet) -> bool
     sets::has_pages(sets::set_of(sets, packet))
 }
 
-pub fn do_release(words: &[u16], sets: &mut [u32], queues: &[u8]) -> Answer
-    requires { ⌜ Ready (now words) (now sets) (now queues) ⌝ }
-    ensures { λ a. ⌜ Performs rules.release (now (words .entry)) (now (sets .entry)) (now (queues .entry)) a (now (words .entry)) (now (sets .exit)) (now (queues .entry)) ⌝ }
+pub fn do_release(words: &mut [u16], sets: &mut [u32]) -> Answer
+    requires { ⌜ Kept (now words) × SetsIn (figures (now words)) (now sets) × GoodPages 24 (map pagesOf (now sets)) ⌝ }
+    ensures { λ a. ⌜ ((q : List ℕ) → Ready (now (words .entry)) (now (sets .entry)) q → Performs rules.release (now (words .entry)) (now (sets .entry)) q a (now (words .exit)) (now (sets .exit)) q) ⌝ }
 {
     let packet = named(words);
     if !is_allocated(sets, packet) {
         return Answer::NotAllocated;
     }
-    if pool::is_queued(words, queues, packet) {
+    if pool::is_queued(words, packet) {
         return Answer::StillQueued;
     }
-    sets::released(sets, packet);
+    pool::give_back(words, sets, packet);
     Answer::Done(0)
 }
 
@@ -51,7 +52,7 @@ pub fn do_enqueue(words: &mut [u16], sets: &[u32], queues: &mut [u8]) -> Answer
     if !is_allocated(sets, packet) {
         return Answer::NotAllocated;
     }
-    if pool::is_queued(words, queues, packet) {
+    if pool::is_queued(words, packet) {
         return Answer::StillQueued;
     }
     pool::join_tx(words, queues, packet);

@@ -1,18 +1,16 @@
 // The commands on the RX head: refusal 7 where RX is empty.
 use state::Answer;
 use state::RX_COUNT;
-ghost use mathlib.Core.Path.{_≡_};
 ghost use mathlib.Core.List.{List};
 ghost use Prim.Native.Nat.{ℕ};
-ghost use lib.ListN.{length};
 ghost use Rattle.rules.specs.Mmu as rules;
-ghost use Rattle.state.specs.View.{counts, Kept};
-ghost use Rattle.state.specs.Promise.{QueuesIn, Ready};
+ghost use Rattle.state.specs.View.{figures, Kept};
+ghost use Rattle.state.specs.Promise.{QueuesIn, SetsIn, Ready};
 ghost use Rattle.commands.specs.Orders.{Performs};
 
 pub fn do_remove(words: &mut [u16], queues: &mut [u8]) -> Answer
-    requires { ⌜ Kept (now words) × QueuesIn (counts (now words)) (now queues) ⌝ }
-    ensures { λ a. ⌜ ((s : List ℕ) → length s ≡ 24 → Performs rules.removeRx (now (words .entry)) s (now (queues .entry)) a (now (words .exit)) s (now (queues .exit))) ⌝ }
+    requires { ⌜ Kept (now words) × QueuesIn (figures (now words)) (now queues) ⌝ }
+    ensures { λ a. ⌜ ((s : List ℕ) → SetsIn (figures (now (words .entry))) s → Performs rules.removeRx (now (words .entry)) s (now (queues .entry)) a (now (words .exit)) s (now (queues .exit))) ⌝ }
 {
     if words[RX_COUNT] == 0 {
         return Answer::RxEmpty;
@@ -28,8 +26,7 @@ pub fn do_remove_and_release(words: &mut [u16], sets: &mut [u32], queues: &mut [
     if words[RX_COUNT] == 0 {
         return Answer::RxEmpty;
     }
-    let head = pool::rx_head(queues);
-    pool::leave_rx(words, queues);
-    sets::released(sets, head);
+    let head = pool::leave_rx(words, queues);
+    pool::give_back(words, sets, head);
     Answer::Done(0)
 }

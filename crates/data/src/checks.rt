@@ -16,13 +16,13 @@ ghost use Rattle.rules.specs.Answers as rules;
 ghost use Rattle.rules.specs.Data.{against, oddFixed};
 ghost use Rattle.sets.specs.Views.{pagesOf};
 ghost use Rattle.state.specs.Meaning.{replyOf};
-ghost use Rattle.state.specs.View.{word, counts, Kept};
+ghost use Rattle.state.specs.View.{word, figures, Kept};
 ghost use Rattle.state.specs.Promise.{QueuesIn, Sound};
 ghost use Rattle.data.specs.Access.{meantIn, pagesMeant, refusalOf, Guards};
 
 // RCV set means the head of RX, clear means the packet number register. No packet has the number PACKETS, which stands for the head of an empty RX.
 fn meant(words: &[u16], queues: &[u8]) -> Packet
-    requires { ⌜ Kept (now words) × QueuesIn (counts (now words)) (now queues) ⌝ }
+    requires { ⌜ Kept (now words) × QueuesIn (figures (now words)) (now queues) ⌝ }
     ensures { λ k. ⌜ k .0 ≡ meantIn (now (words .entry)) (now (queues .entry)) ⌝ }
 {
     if !bits::is_set(words[POINTER], flags::RCV) {

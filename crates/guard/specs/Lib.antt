@@ -1,3 +1,5 @@
 -- What the functions of this crate test.
 pub mod Zeros
+pub mod Sums
 pub mod Pass
+pub mod Queues

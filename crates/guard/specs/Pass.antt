@@ -7,22 +7,24 @@ use mathlib.Core.List.{List, [], _∷_}
 use Prim.Native.Nat.{ℕ, zero, suc, _+_, _^_, _≤_, _<_}
 use native.Mathlib.Numerals.{add-one}
 use native.Mathlib.Omega.{arith}
-use native.Mathlib.Decide.{ℕ-discrete}
-use borrow.Author.Tests.{eqb-true, eq-eqb, ne-eqb}
-use lib.Bits.{bitOr}
+use borrow.Author.Tests.{eqb-true, eq-eqb}
+use lib.Bits.{bitOr, or-comm, or-disjoint}
 use lib.Dec.{eqb, ltb}
 use lib.ListN.{length, take, drop, getD, drop-of-length-le}
+use lib.Pow.{pow-lt}
 use lib.Seq.{drop-cons, length-take-le, getD-take}
-use Rattle.rules.specs.Bits.{bit, setBit, clearBit}
+use Rattle.rules.specs.Bits.{bit}
 use Rattle.rules.specs.Lists.{member, some?}
 use Rattle.rules.specs.Tests.{allBelow}
 use Rattle.rules.specs.WellFormed.{Distinct, GoodQueues}
 use Rattle.lists.specs.Facts.{Decides, agrees, always, is-true, is-false, _and_, if-not, or-left, or-right, nobody, member-cases, member-first, member-later}
 use Rattle.lists.specs.Each.{members}
 use Rattle.wellformed.specs.Fit.{below-decides}
-use Rattle.bits.specs.Laws.{bit-set, bit-set-other}
 use Rattle.sets.specs.Bits.{bit-or, bit-zero}
+use Rattle.sets.specs.Good.{and-none}
+use Rattle.sets.specs.Members.{setOf, bit-power}
 use Rattle.sets.specs.Pages.{or-false, or-assoc}
+use Rattle.guard.specs.Sums.{sum, sum-first}
 
 -- is each entry allocated, and neither among those seen nor earlier in the list
 unfoldable pub passes : List (List ℕ) → ℕ → List ℕ → Bool
@@ -35,17 +37,6 @@ gathered seen [] = seen
 gathered seen (x ∷ xs) = gathered (bitOr seen (2 ^ x)) xs
 
 -- Packet x more is seen.
-bit-power : (k x : ℕ) → bit k (2 ^ x) ≡ eqb k x
-unfolding setBit clearBit
-bit-power k x = go (ℕ-discrete k x)
-  where
-    alone : 2 ^ x ≡ setBit x 0
-    alone = omega arith
-
-    go : Dec (k ≡ x) → bit k (2 ^ x) ≡ eqb k x
-    go (yes e) = rw (e, eq-eqb x x refl, alone) (bit-set x 0)
-    go (no n) = ap (bit k) alone ∙ bit-set-other x 0 k n ∙ bit-zero k ∙ sym (ne-eqb k x n)
-
 bit-joined : (k x seen : ℕ) → bit k (bitOr seen (2 ^ x)) ≡ bit k seen || eqb k x
 bit-joined k x seen = bit-or k seen (2 ^ x) ∙ ap (_||_ (bit k seen)) (bit-power k x)
 
@@ -88,6 +79,19 @@ pass-decides ls seen (x ∷ xs) =
     (λ w. fresh-more ls seen x xs (w .0 .0) (w .0 .1) (w .1))
     (λ f. ((f .allocated x (member-first x xs), f .unseen x (member-first x xs)), fresh-rest ls seen x xs f))
 
+-- Those seen, as a sum: a packet that was not seen has no bit in common with them.
+joined-sum : (seen x : ℕ) → bit x seen ≡ false → bitOr seen (2 ^ x) ≡ seen + 2 ^ x
+joined-sum seen x new =
+    or-comm seen (2 ^ x) ∙ or-disjoint (2 ^ x) seen (and-none (suc x) (2 ^ x) seen (pow-lt (omega arith)) (λ k b. ap (λ (y : ℕ). bit y seen) (eqb-true k x (sym (bit-power k x) ∙ b)) ∙ new)) ∙ omega arith
+
+pub gathered-set : (ls : List (List ℕ)) (seen : ℕ) (l : List ℕ) → passes ls seen l ≡ true → gathered seen l ≡ seen + setOf l
+unfolding gathered setOf
+gathered-set ls seen [] p = omega arith
+gathered-set ls seen (x ∷ xs) p =
+    let f = pass-decides ls seen (x ∷ xs) .sound p in
+    let rest = pass-decides ls (bitOr seen (2 ^ x)) xs .complete (fresh-rest ls seen x xs f) in
+    omega (arith, gathered-set ls (bitOr seen (2 ^ x)) xs rest, joined-sum seen x (f .unseen x (member-first x xs)))
+
 -- So of RX and then of TX, beside completion.
 module _ (ls : List (List ℕ)) (rx tx completion : List ℕ) where
   pub rx-passes : GoodQueues 24 ls rx tx completion → passes ls 0 rx ≡ true
@@ -101,22 +105,19 @@ module _ (ls : List (List ℕ)) (rx tx completion : List ℕ) where
       pass-decides ls (gathered 0 rx) tx .complete
       (record { allocated = g .txAllocated; unseen = λ k m. seen-rx k ∙ if-not (member k rx) (λ r. true≢false (sym m ∙ g .notBoth k r)); distinct = g .txDistinct })
 
-  pub entries-decide : passes ls 0 rx ≡ true → passes ls (gathered 0 rx) tx ≡ true → length completion ≤ 24
-      → Decides (allBelow 24 completion) (GoodQueues 24 ls rx tx completion)
-  entries-decide a b few =
+  pub entries-good : passes ls 0 rx ≡ true → passes ls (gathered 0 rx) tx ≡ true → allBelow 24 completion ≡ true → length completion ≤ 24 → GoodQueues 24 ls rx tx completion
+  entries-good a b n few =
       let r = pass-decides ls 0 rx .sound a in
       let t = pass-decides ls (gathered 0 rx) tx .sound b in
-      agrees (members (λ k. k < 24) completion (below-decides 24 completion))
-      (λ n. record {
+      record {
         rxAllocated = r .allocated;
         txAllocated = t .allocated;
         rxDistinct = r .distinct;
         txDistinct = t .distinct;
         notBoth = λ k m. if-not (member k tx) (λ n. true≢false (sym m ∙ sym (seen-rx k) ∙ t .unseen k n));
         completionFew = few;
-        completionNumbers = n;
-      })
-      (λ g. g .completionNumbers)
+        completionNumbers = members (λ k. k < 24) completion (below-decides 24 completion) .sound n;
+      }
 
 -- An allocated packet has one of the page lists.
 pub some-below : (ls : List (List ℕ)) (k : ℕ) → some? (getD ls k []) ≡ true → k < length ls
@@ -145,3 +146,6 @@ module _ (p : List ℕ) (c i : ℕ) (fits : c ≤ length p) (h : i < c) where
   pub gather-here : (seen : ℕ) → gathered seen (drop i (take c p)) ≡ gathered (bitOr seen (2 ^ getD p i 0)) (drop (i + 1) (take c p))
   unfolding gathered
   gather-here seen = ap (gathered seen) entry-left
+
+  pub added-here : sum (drop i (take c p)) ≡ getD p i 0 + sum (drop (i + 1) (take c p))
+  added-here = ap sum entry-left ∙ sum-first _ _

@@ -1,7 +1,12 @@
-// The three queues: slots with 0 behind the entries, and entries that may be there.
+// The three queues: entries that may be there, 0 behind them, and the figures kept of them.
+use queues::marks;
 use sets::Packet;
 use state::COMPLETION;
 use state::COMPLETION_COUNT;
+use state::IN_RX;
+use state::IN_RX_HIGH;
+use state::IN_TX;
+use state::IN_TX_HIGH;
 use state::QUEUES_END;
 use state::RX;
 use state::RX_COUNT;
@@ -13,63 +18,55 @@ ghost use mathlib.Core.List.{map};
 ghost use Prim.Native.Nat.{_^_, _≤_, _<_};
 ghost use lib.Bits.{bitOr};
 ghost use lib.ListN.{length, take};
-ghost use Rattle.rules.specs.Bits.{bit};
 ghost use Rattle.rules.specs.Tests.{allBelow};
 ghost use Rattle.rules.specs.WellFormed.{GoodQueues};
 ghost use Rattle.lists.specs.Facts.{Decides};
 ghost use Rattle.sets.specs.Views.{pagesOf};
-ghost use Rattle.queues.specs.Slots.{Slots};
-ghost use Rattle.state.specs.View.{word, counts, queueIn};
+ghost use Rattle.state.specs.View.{word, figures, rxBits, txBits, queueIn};
 ghost use Rattle.state.specs.Promise.{QueuesIn};
-ghost use Rattle.guard.specs.Zeros.{Zeros};
+ghost use Rattle.guard.specs.Sums.{sum};
 ghost use Rattle.guard.specs.Pass.{passes, gathered};
 
-// Are all slots from `count` on 0? One `|` for each, and one test.
-fn zero_from(slots: &[u8], count: usize) -> bool
-    requires { ⌜ count ≤ length (now slots) ⌝ }
-    ensures { λ b. ⌜ Decides b (Zeros count (length (now (slots .entry))) (now (slots .entry))) ⌝ }
+// What the bytes add up to: 0 stands behind the entries exactly where the entries add up to as much.
+fn total(bytes: &[u8]) -> u16
+    requires { ⌜ length (now bytes) ≡ 72 ⌝ }
+    ensures { λ r. ⌜ r ≡ sum (now (bytes .entry)) ⌝ }
 {
-    let mut rest = 0;
-    let mut i = count;
-    while i < slots.len() {
-        rest = rest | slots[i];
+    let mut added = 0;
+    let mut i = 0;
+    while i < bytes.len() {
+        added += bytes[i] as u16;
         i += 1;
     }
-    rest == 0
+    added
 }
 
-// Do the slots hold so many entries, and 0 behind them?
-fn slots_sound(slots: &[u8], count: u16) -> bool
-    ensures { λ b. ⌜ Decides b (Slots (now (slots .entry)) count (take count (now (slots .entry)))) ⌝ }
+// Has each queue room for so many entries?
+fn counts_fit(words: &[u16]) -> bool
+    requires { ⌜ length (now words) ≡ 32 ⌝ }
+    ensures { λ b. ⌜ Decides b ((word (now (words .entry)) 6 ≤ 24) × (word (now (words .entry)) 8 ≤ 24) × (word (now (words .entry)) 9 ≤ 24)) ⌝ }
 {
-    let n = count as usize;
-    if slots.len() < n {
+    if 24 < words[RX_COUNT] {
         return false;
     }
-    zero_from(slots, n)
+    if 24 < words[TX_COUNT] {
+        return false;
+    }
+    words[COMPLETION_COUNT] <= 24
 }
 
-pub fn queues_sound(words: &[u16], queues: &[u8]) -> bool
-    requires { ⌜ (length (now words) ≡ 32) × (length (now queues) ≡ 72) ⌝ }
-    ensures { λ b. ⌜ Decides b (QueuesIn (counts (now (words .entry))) (now (queues .entry))) ⌝ }
+// Are these the packets whose bits "in RX" and "in TX" are set?
+fn marks_good(words: &[u16], rx: u32, tx: u32) -> bool
+    requires { ⌜ length (now words) ≡ 32 ⌝ }
+    ensures { λ b. ⌜ Decides b ((rxBits (now (words .entry)) ≡ rx) × (txBits (now (words .entry)) ≡ tx)) ⌝ }
 {
-    if !slots_sound(&queues[RX..TX], words[RX_COUNT]) {
+    if marks::joined(words[IN_RX], words[IN_RX_HIGH]) != rx {
         return false;
     }
-    if !slots_sound(&queues[TX..COMPLETION], words[TX_COUNT]) {
-        return false;
-    }
-    slots_sound(&queues[COMPLETION..QUEUES_END], words[COMPLETION_COUNT])
+    marks::joined(words[IN_TX], words[IN_TX_HIGH]) == tx
 }
 
 // Packets seen have their bit.
-fn is_seen(seen: u32, x: u8) -> bool
-    requires { ⌜ x < 32 ⌝ }
-    ensures { λ b. ⌜ b ≡ bit x seen ⌝ }
-{
-    (seen >> x) % 2 == 1
-}
-
 fn with_seen(seen: u32, x: u8) -> u32
     requires { ⌜ x < 32 ⌝ }
     ensures { λ r. ⌜ r ≡ bitOr seen (2 ^ x) ⌝ }
@@ -77,51 +74,63 @@ fn with_seen(seen: u32, x: u8) -> u32
     seen | 1 << x
 }
 
-// Does each entry pass, and which packets are seen with them?
-pub struct Seen(pub bool, pub u32);
+// Does each entry pass, which packets are seen with them, and what do they add up to?
+pub struct Seen(pub bool, pub u32, pub u32);
 
 // Is each entry allocated, and not seen before it?
 fn fresh(sets: &[u32], slots: &[u8], count: u16, seen: u32) -> Seen
-    requires { ⌜ (length (now sets) ≡ 24) × (count ≤ length (now slots)) ⌝ }
+    requires { ⌜ (length (now sets) ≡ 24) × (length (now slots) ≡ 24) × (count ≤ 24) ⌝ }
     ensures good { λ r. ⌜ r .0 ≡ passes (map pagesOf (now (sets .entry))) seen (take count (now (slots .entry))) ⌝ }
     ensures all { λ r. ⌜ (r .0 ≡ true → r .1 ≡ gathered seen (take count (now (slots .entry)))) ⌝ }
+    ensures added { λ r. ⌜ (r .0 ≡ true → r .2 ≡ sum (take count (now (slots .entry)))) ⌝ }
 {
     let mut all = seen;
+    let mut added = 0;
     let mut i = 0;
     while i < count as usize {
         let x = slots[i];
         if !sets::has_pages(sets::set_of(sets, Packet(x))) {
-            return Seen(false, 0);
+            return Seen(false, 0, 0);
         }
-        if is_seen(all, x) {
-            return Seen(false, 0);
+        if marks::has(all, Packet(x)) {
+            return Seen(false, 0, 0);
         }
         all = with_seen(all, x);
+        added += x as u32;
         i += 1;
     }
-    Seen(true, all)
+    Seen(true, all, added)
 }
 
-// Are the entries packet numbers?
-fn all_below(slots: &[u8], count: u16) -> bool
-    requires { ⌜ count ≤ length (now slots) ⌝ }
-    ensures { λ b. ⌜ b ≡ allBelow 24 (take count (now (slots .entry))) ⌝ }
+// Is each entry a packet number, and what do they add up to?
+pub struct Numbers(pub bool, pub u32);
+
+fn all_below(slots: &[u8], count: u16) -> Numbers
+    requires { ⌜ (length (now slots) ≡ 24) × (count ≤ 24) ⌝ }
+    ensures good { λ r. ⌜ r .0 ≡ allBelow 24 (take count (now (slots .entry))) ⌝ }
+    ensures added { λ r. ⌜ (r .0 ≡ true → r .1 ≡ sum (take count (now (slots .entry)))) ⌝ }
 {
+    let mut added = 0;
     let mut i = 0;
     while i < count as usize {
-        if 24 <= slots[i] {
-            return false;
+        let x = slots[i];
+        if 24 <= x {
+            return Numbers(false, 0);
         }
+        added += x as u32;
         i += 1;
     }
-    true
+    Numbers(true, added)
 }
 
-// Are the entries what document 01 asks? Those of RX are seen before TX.
-pub fn entries_good(words: &[u16], sets: &[u32], queues: &[u8]) -> bool
-    requires { ⌜ (length (now words) ≡ 32) × (length (now sets) ≡ 24) × QueuesIn (counts (now words)) (now queues) ⌝ }
-    ensures { λ b. ⌜ Decides b (GoodQueues 24 (map pagesOf (now (sets .entry))) (queueIn 0 (word (now (words .entry)) 6) (now (queues .entry))) (queueIn 1 (word (now (words .entry)) 8) (now (queues .entry))) (queueIn 2 (word (now (words .entry)) 9) (now (queues .entry)))) ⌝ }
+// Are the queues laid out as they must be, and their entries what document 01 asks? Those of RX are seen before TX.
+pub fn queues_good(words: &[u16], sets: &[u32], queues: &[u8]) -> bool
+    requires { ⌜ (length (now words) ≡ 32) × (length (now sets) ≡ 24) × (length (now queues) ≡ 72) ⌝ }
+    ensures { λ b. ⌜ Decides b (QueuesIn (figures (now (words .entry))) (now (queues .entry)) × GoodQueues 24 (map pagesOf (now (sets .entry))) (queueIn 0 (word (now (words .entry)) 6) (now (queues .entry))) (queueIn 1 (word (now (words .entry)) 8) (now (queues .entry))) (queueIn 2 (word (now (words .entry)) 9) (now (queues .entry)))) ⌝ }
 {
+    if !counts_fit(words) {
+        return false;
+    }
     let rx = fresh(sets, &queues[RX..TX], words[RX_COUNT], 0);
     if !rx.0 {
         return false;
@@ -130,5 +139,12 @@ pub fn entries_good(words: &[u16], sets: &[u32], queues: &[u8]) -> bool
     if !tx.0 {
         return false;
     }
-    all_below(&queues[COMPLETION..QUEUES_END], words[COMPLETION_COUNT])
+    if !marks_good(words, rx.1, tx.1 - rx.1) {
+        return false;
+    }
+    let completion = all_below(&queues[COMPLETION..QUEUES_END], words[COMPLETION_COUNT]);
+    if !completion.0 {
+        return false;
+    }
+    total(queues) == (rx.2 + tx.2 + completion.1) as u16
 }

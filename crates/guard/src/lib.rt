@@ -2,8 +2,8 @@
 mod fifos; // fifos.rt: the three queues
 mod words; // words.rt: the registers
 
-use fifos::entries_good;
-use fifos::queues_sound;
+use fifos::queues_good;
+use state::MIR;
 use words::words_good;
 ghost use mathlib.Core.Path.{_≡_};
 ghost use lib.ListN.{length};
@@ -17,11 +17,12 @@ pub fn well_formed(words: &[u16], sets: &[u32], queues: &[u8]) -> bool
     if !words_good(words) {
         return false;
     }
-    if !sets::sets_good(sets) {
+    let pages = sets::audit(sets);
+    if !pages.0 {
         return false;
     }
-    if !queues_sound(words, queues) {
+    if words[MIR] as u32 != 24 + pages.1 * 256 {
         return false;
     }
-    entries_good(words, sets, queues)
+    queues_good(words, sets, queues)
 }

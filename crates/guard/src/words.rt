@@ -55,8 +55,7 @@ fn blanks_good(words: &[u16]) -> bool
     requires { ⌜ length (now words) ≡ 32 ⌝ }
     ensures { λ b. ⌜ Decides b (BlankIn (now (words .entry))) ⌝ }
 {
-    let low = words[4] | words[15] | words[16] | words[18] | words[20] | words[21] | words[23];
-    (low | words[28] | words[29] | words[30] | words[31]) == 0
+    (words[15] | words[16] | words[18] | words[20] | words[21] | words[23]) == 0
 }
 
 pub fn words_good(words: &[u16]) -> bool

@@ -1,25 +1,19 @@
 -- The ledger balances: the free pages with the pages granted are n with the pages given back, for any n up to 128.
 use mathlib.Core.Path.{_≡_, refl, ap, ap₂, sym, _∙_}
 use mathlib.Core.List.{List, [], _∷_, map}
-use Prim.Native.Nat.{ℕ, zero, suc, _+_, _≤_, _<_}
+use Prim.Native.Nat.{ℕ, zero, suc, _+_, _≤_}
 use native.Mathlib.Omega.{arith}
 use lib.ListN.{length, getD, set, replicate, length-set, length-replicate, List·getD-map}
 use Rattle.rules.specs.Chip.{Chip, free, powered}
 use Rattle.rules.specs.Step.{Input, stepOf, runOf}
 use Rattle.lists.specs.Facts.{map-set}
-use Rattle.wellformed.specs.Count.{total, free-and-total}
+use Rattle.wellformed.specs.Count.{total, total-set, free-and-total}
 use Rattle.wellformed.specs.Fit.{Fits}
 use Rattle.wellformed.specs.Keeps.{keeps, powered-fits}
 use Rattle.laws.specs.Ledger.{Entry, grants, returns, restarts, entriesOf, Ledger, blank, entered, enteredAll, ledgerFrom}
 use Rattle.laws.specs.Told.{Applies, AllApply, told}
 
--- One list replaced, and all emptied: how many pages there are, and how long each list is.
-total-set : (ls : List (List ℕ)) (k : ℕ) (l : List ℕ) → k < length ls → total (set ls k l) + length (getD ls k []) ≡ total ls + length l
-unfolding total
-total-set [] k l h = absurd (omega arith)
-total-set (x ∷ xs) zero l h = omega arith
-total-set (x ∷ xs) (suc k) l h = omega (arith, total-set xs k l (omega arith))
-
+-- All lists emptied: how many pages there are, and how long each list is.
 total-none : (n : ℕ) → total (replicate n []) ≡ 0
 unfolding total
 total-none zero = refl

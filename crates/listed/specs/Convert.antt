@@ -4,11 +4,13 @@ use mathlib.Core.Path.{_≡_, ap, sym, subst, _∙_}
 use mathlib.Core.List.{List, [], _++_, map}
 use Prim.Native.Nat.{ℕ, _/_, _%_}
 use native.Mathlib.Omega.{arith}
-use lib.ListN.{length-map}
-use Rattle.rules.specs.Bits.{bit}
-use Rattle.rules.specs.Chip.{Chip}
+use lib.ListN.{length, length-map}
+use Rattle.rules.specs.Bits.{bit, wordOf}
+use Rattle.rules.specs.Lists.{freeBelow}
+use Rattle.rules.specs.Chip.{Chip, Pool}
 use Rattle.rules.specs.WellFormed.{WellFormed}
 use Rattle.sets.specs.Views as sets
+use Rattle.sets.specs.Members.{setOf}
 use Rattle.queues.specs.Parts.{slots, part-long}
 use Rattle.state.specs.declared.Registers as declared
 use Rattle.state.specs.declared.Pages.{Pages}
@@ -19,9 +21,9 @@ use Rattle.state.specs.Entry.{InOrderBy}
 use Rattle.state.specs.Only.{wordsOf, Small, one-state}
 use Rattle.listed.specs.declared.Page.{Page}
 use Rattle.listed.specs.declared.Registers.{Registers}
-use Rattle.listed.specs.Record.{used, mapOf, registersOf, view, one-record}
+use Rattle.listed.specs.Record.{used, mapOf, registersOf, poolOf, view, one-record}
 use Rattle.listed.specs.Promise.{InOrder}
-use Rattle.listed.specs.Lists.{setOf, lists-sets, lists-rows, lists-small}
+use Rattle.listed.specs.Lists.{lists-sets, lists-rows, lists-small}
 use Rattle.listed.specs.Words.{Words, Typed, registers-back, words-kept, words-typed, typed-words}
 use Rattle.listed.specs.Fifos.{bytesOf, queueFrom, entries-from, sound-from, all-queues, all-rx, all-tx, all-completion}
 
@@ -35,11 +37,12 @@ pub record Lent : Type 0 where
   pub pages : Pages
   pub queues : Queues
 
+-- To sets, the figures of the words are counted from the lists.
 abbrev pub toSets : Listed → Lent
 toSets x =
     let r = x .registers in
     record {
-      registers = record { words = wordsOf (registersOf r) (r .rx .count) (r .tx .count) (r .done .count) };
+      registers = record { words = wordsOf (registersOf r) (poolOf r (x .pages)) };
       pages = record { sets = map setOf (map used (x .pages)) };
       queues = record { slots = bytesOf (r .rx) ++ (bytesOf (r .tx) ++ bytesOf (r .done)) };
     }
@@ -103,11 +106,14 @@ module _ (x : Listed) (mem : List ℕ) (t : ListedTyped x) (o : ListedInOrder x 
   abbrev r : Registers
   r = x .registers
 
+  abbrev pool : Pool
+  pool = poolOf r (x .pages)
+
   pub sets-chip : (m : List ℕ) → lentChip (toSets x) m ≡ listedChip x m
   sets-chip m = λ i. record {
-    regs = registers-back (registersOf r) t (r .rx .count) (r .tx .count) (r .done .count) i;
+    regs = registers-back (registersOf r) t pool i;
     pool = record {
-      pages = lists-sets (map used (x .pages)) (o .ready .well .pages) i;
+      pages = lists-sets (pool .pages) (o .ready .well .pages) i;
       rx = all-rx (r .rx) (r .tx) (r .done) (o .ready .queues) i;
       tx = all-tx (r .rx) (r .tx) (r .done) (o .ready .queues) i;
       completion = all-completion (r .rx) (r .tx) (r .done) (o .ready .queues) i;
@@ -119,9 +125,12 @@ module _ (x : Listed) (mem : List ℕ) (t : ListedTyped x) (o : ListedInOrder x 
   sets-in-order = record {
     ready = record {
       sound = record {
-        kept = words-kept (registersOf r) t (r .rx .count) (r .tx .count) (r .done .count) (o .ready .well .numbers .bankSmall);
-        queues = all-queues (r .rx) (r .tx) (r .done) (o .ready .queues);
-        sets = length-map (map used (x .pages)) setOf ∙ o .ready .well .count;
+        kept = words-kept (registersOf r) t pool (o .ready .well .numbers .bankSmall);
+        queues = all-queues (r .rx) (r .tx) (r .done) (o .ready .queues) (registersOf r) (pool .pages);
+        sets = record {
+          many = length-map (pool .pages) setOf ∙ o .ready .well .count;
+          free = ap (λ (ls : List (List ℕ)). wordOf 24 (length (freeBelow 24 ls))) (sym (lists-sets (pool .pages) (o .ready .well .pages)));
+        };
       };
       well = subst WellFormed (sym (sets-chip [])) (o .ready .well);
     };
@@ -130,9 +139,8 @@ module _ (x : Listed) (mem : List ℕ) (t : ListedTyped x) (o : ListedInOrder x 
 
   pub sets-typed : LentTyped (toSets x)
   sets-typed = record {
-    words = words-typed (registersOf r) t (r .rx .count) (r .tx .count) (r .done .count)
-        (omega (arith, o .ready .queues .rx .fits)) (omega (arith, o .ready .queues .tx .fits)) (omega (arith, o .ready .queues .done .fits));
-    sets = lists-small (map used (x .pages)) (o .ready .well .pages);
+    words = words-typed (registersOf r) t pool (o .ready .well);
+    sets = lists-small (pool .pages) (o .ready .well .pages);
   }
 
 -- To lists: the same chip, in order.

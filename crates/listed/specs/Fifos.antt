@@ -1,14 +1,17 @@
 -- A queue of packet numbers as 24 bytes, and back: both hold the entries, and 0 in each place that is left.
 use mathlib.Core.Path.{_≡_, refl, ap, ap₂, sym, _∙_}
 use mathlib.Core.List.{List, [], _∷_, _++_, map}
-use Prim.Native.Nat.{ℕ, zero, suc, _+_, _-_}
+use Prim.Native.Nat.{ℕ, zero, suc, _+_, _-_, _/_, _%_}
 use native.Mathlib.Omega.{arith}
 use lib.ListN.{length, take, drop, replicate, length-append, length-replicate}
 use lib.Seq.{take-at, drop-at, take-all, drop-drop}
+use Rattle.rules.specs.Chip.{Registers}
+use Rattle.sets.specs.Members.{setOf}
 use Rattle.queues.specs.Slots.{Slots}
 use Rattle.queues.specs.Parts.{slots, slots-entries, slots-as}
-use Rattle.state.specs.View.{queueIn}
+use Rattle.state.specs.View.{figures, queueIn}
 use Rattle.state.specs.Promise.{QueuesIn}
+use Rattle.state.specs.Only.{wordsOf}
 use Rattle.listed.specs.declared.Packet.{Packet}
 use Rattle.listed.specs.declared.Queue.{Queue}
 use Rattle.listed.specs.Record.{packet, number, slotsOf, entries, queueOf, SoundQueue, SoundQueues}
@@ -54,11 +57,11 @@ module _ (q : Queue) (s : SoundQueue q) where
       ap length bytes-are ∙ length-append (entries q) (replicate (24 - length (entries q)) 0)
       ∙ ap (λ (n : ℕ). length (entries q) + n) (length-replicate (24 - length (entries q)) 0) ∙ omega (arith, counted, s .fits)
 
-  bytes-slots : Slots (bytesOf q) (q .count) (entries q)
+  bytes-slots : Slots (bytesOf q) (length (entries q)) (entries q)
   bytes-slots = record {
-    many = counted;
-    fits = omega (arith, s .fits, bytes-long);
-    same = bytes-are ∙ ap₂ (λ (a b : ℕ). entries q ++ replicate (a - b) 0) (sym bytes-long) (sym counted);
+    many = refl;
+    fits = omega (arith, counted, s .fits, bytes-long);
+    same = bytes-are ∙ ap (λ (n : ℕ). entries q ++ replicate (n - length (entries q)) 0) (sym bytes-long);
   }
 
 -- from the bytes
@@ -90,19 +93,22 @@ module _ (a b c : Queue) (s : SoundQueues a b c) where
       ap (take 24) (sym (drop-drop 24 24 all) ∙ ap (drop 24) behind ∙ drop-at (bytesOf b) (bytesOf c) 24 (bytes-long b (s .tx)))
       ∙ take-all 24 (bytesOf c) (omega (arith, bytes-long c (s .done)))
 
-  pub all-queues : QueuesIn (a .count ∷ b .count ∷ c .count ∷ []) all
-  all-queues = record {
+  pub all-rx : queueIn 0 (length (entries a)) all ≡ entries a
+  all-rx = ap (take (length (entries a))) first ∙ slots-entries (bytesOf a) (length (entries a)) (entries a) (bytes-slots a (s .rx))
+
+  pub all-tx : queueIn 1 (length (entries b)) all ≡ entries b
+  all-tx = ap (take (length (entries b))) second ∙ slots-entries (bytesOf b) (length (entries b)) (entries b) (bytes-slots b (s .tx))
+
+  pub all-completion : queueIn 2 (length (entries c)) all ≡ entries c
+  all-completion = ap (take (length (entries c))) third ∙ slots-entries (bytesOf c) (length (entries c)) (entries c) (bytes-slots c (s .done))
+
+  -- as the figures count them, beside any registers and page lists
+  pub all-queues : (r : Registers) (ls : List (List ℕ)) → QueuesIn (figures (wordsOf r (record { pages = ls; rx = entries a; tx = entries b; completion = entries c }))) all
+  all-queues r ls = record {
     long = simp length-append (omega (arith, bytes-long a (s .rx), bytes-long b (s .tx), bytes-long c (s .done)));
-    rx = rw first (slots-as (bytesOf a) (a .count) (entries a) (bytes-slots a (s .rx)));
-    tx = rw second (slots-as (bytesOf b) (b .count) (entries b) (bytes-slots b (s .tx)));
-    completion = rw third (slots-as (bytesOf c) (c .count) (entries c) (bytes-slots c (s .done)));
+    rx = rw first (slots-as (bytesOf a) (length (entries a)) (entries a) (bytes-slots a (s .rx)));
+    tx = rw second (slots-as (bytesOf b) (length (entries b)) (entries b) (bytes-slots b (s .tx)));
+    completion = rw third (slots-as (bytesOf c) (length (entries c)) (entries c) (bytes-slots c (s .done)));
+    inRx = record { lower = ap (λ (l : List ℕ). setOf l % 65536) (sym all-rx); upper = ap (λ (l : List ℕ). setOf l / 65536) (sym all-rx) };
+    inTx = record { lower = ap (λ (l : List ℕ). setOf l % 65536) (sym all-tx); upper = ap (λ (l : List ℕ). setOf l / 65536) (sym all-tx) };
   }
-
-  pub all-rx : queueIn 0 (a .count) all ≡ entries a
-  all-rx = ap (take (a .count)) first ∙ slots-entries (bytesOf a) (a .count) (entries a) (bytes-slots a (s .rx))
-
-  pub all-tx : queueIn 1 (b .count) all ≡ entries b
-  all-tx = ap (take (b .count)) second ∙ slots-entries (bytesOf b) (b .count) (entries b) (bytes-slots b (s .tx))
-
-  pub all-completion : queueIn 2 (c .count) all ≡ entries c
-  all-completion = ap (take (c .count)) third ∙ slots-entries (bytesOf c) (c .count) (entries c) (bytes-slots c (s .done))

@@ -6,14 +6,15 @@ use Prim.Native.Nat.{ℕ, _<_}
 use native.Mathlib.Omega.{arith}
 use lib.ListN.{replicate, length-replicate}
 use Rattle.rules.specs.Bits.{flag, wordOf, wordAt}
+use Rattle.rules.specs.Lists.{member, owned, unless, freeBelow}
 use Rattle.rules.specs.Chip.{powerUp}
 use Rattle.rules.specs.Step.{Input}
 use Rattle.lists.specs.Each.{each-at}
 use Rattle.wellformed.specs.Keeps.{power-up-well}
+use Rattle.sets.specs.Members.{setOf}
 use Rattle.state.specs.declared.Answer.the-variants.{Done}
 use Rattle.listed.specs.declared.Queue.{Queue}
 use Rattle.listed.specs.Record.{page, packet, used, SoundQueue}
-use Rattle.listed.specs.Lists.{setOf}
 use Rattle.listed.specs.Convert.{Listed, Lent, Converts, toSets, toLists, listedChip, ListedInOrder, ListedTyped, LentInOrder, LentTyped, sets-in-order, sets-typed, lists-back, converts-chip}
 use Rattle.listed.specs.Same.{ListedLeft, LentLeft, listedIn, lentIn, ListedStep, LentStep, SameLeft, same-left, same-step}
 
@@ -94,7 +95,7 @@ abbrev pub lentPowerUp : Lent
 lentPowerUp = record {
   registers = record {
     words =
-        0 ∷ 0 ∷ 0 ∷ 0 ∷ 0 ∷ 0x3300 ∷ 0 ∷ 0x3300 ∷ 0 ∷ 0 ∷ 0 ∷ 0 ∷ 0 ∷ 4 ∷ 0 ∷ 0 ∷ 0 ∷ 0x8000 ∷ 0 ∷ 0 ∷ 0 ∷ 0 ∷ 0 ∷ 0 ∷ 0 ∷ 0 ∷ 0 ∷ 0 ∷ 0 ∷ 0 ∷ 0 ∷ 0 ∷ [];
+        0 ∷ 0 ∷ 0 ∷ 0 ∷ 0x1818 ∷ 0x3300 ∷ 0 ∷ 0x3300 ∷ 0 ∷ 0 ∷ 0 ∷ 0 ∷ 0 ∷ 4 ∷ 0 ∷ 0 ∷ 0 ∷ 0x8000 ∷ 0 ∷ 0 ∷ 0 ∷ 0 ∷ 0 ∷ 0 ∷ 0 ∷ 0 ∷ 0 ∷ 0 ∷ 0 ∷ 0 ∷ 0 ∷ 0 ∷ [];
   };
   pages = record { sets = replicate 24 0 };
   queues = record { slots = replicate 72 0 };
@@ -127,7 +128,7 @@ listed-typed =
     }
 
 sets-power-up : toSets listedPowerUp ≡ lentPowerUp
-unfolding used setOf wordOf wordAt flag
+unfolding used setOf wordOf wordAt flag member owned unless freeBelow
 sets-power-up = refl
 
 pub converts-power-up : Converts listedPowerUp lentPowerUp

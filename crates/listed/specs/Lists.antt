@@ -1,72 +1,24 @@
--- A page list as a row and as a number, and that both give it back where it ascends, has pages below 24 and at most 8 of them. The number's bits are
--- the list's members, since the terms of the sum have no bit in common; and lists that ascend and have the same members are the same.
+-- A page list as a row and as a number, and that both give it back where it ascends, has pages below 24 and at most 8 of them: the number's bits are
+-- the list's members, and lists that ascend and have the same members are the same.
 use mathlib.Core.Path.{_≡_, refl, ap, ap₂, sym, subst, _∙_}
 use mathlib.Core.Bool.{true, false, _||_}
 use mathlib.Core.Logic.{⊎-elim}
 use mathlib.Core.List.{List, [], _∷_, _++_, map, map-map}
-use Prim.Native.Nat.{ℕ, zero, suc, _+_, _-_, _/_, _%_, _^_, _≤_, _<_}
-use native.Mathlib.Nat.{pow-suc}
+use Prim.Native.Nat.{ℕ, zero, suc, _-_, _^_, _≤_, _<_}
 use native.Mathlib.Omega.{arith}
 use native.Mathlib.Decide.{ℕ-discrete}
-use borrow.Author.Tests.{eq-eqb, ne-eqb, eqb-true}
-use lib.Bits.{bitOr, or-disjoint, or-lt}
+use borrow.Author.Tests.{ne-eqb}
 use lib.Dec.{eqb}
 use lib.ListN.{length, getD, replicate, List·getD-map}
-use lib.Pow.{pow-pos, pow-lt}
-use Rattle.rules.specs.Bits.{bit}
 use Rattle.rules.specs.Lists.{member}
-use Rattle.rules.specs.WellFormed.{Above, Ascending, Distinct, GoodPages}
+use Rattle.rules.specs.WellFormed.{Above, Ascending, GoodPages}
 use Rattle.lists.specs.Facts.{if-not, nobody, member-cases, member-first}
 use Rattle.lists.specs.Each.{Each, member-each}
 use Rattle.wellformed.specs.Count.{above-least, ascending-distinct}
 use Rattle.sets.specs.Views as sets
-use Rattle.sets.specs.Bits.{bit-low, bit-half, bit-zero, bit-or}
 use Rattle.sets.specs.Pages.{pages-ascend, member-pages}
-use Rattle.sets.specs.Good.{and-none}
+use Rattle.sets.specs.Members.{setOf, set-members, set-small}
 use Rattle.listed.specs.Record.{page, used, rowOf}
-
--- the set of a page list: the sum of 2 ^ p
-unfoldable pub setOf : List ℕ → ℕ
-setOf [] = 0
-setOf (p ∷ ps) = 2 ^ p + setOf ps
-
--- 2 ^ p has bit p and no other.
-bit-power : (k p : ℕ) → bit k (2 ^ p) ≡ eqb k p
-unfolding bit
-bit-power zero zero = refl
-bit-power zero (suc p) =
-    let e = pow-suc 2 p in
-    let even : 2 ^ suc p % 2 ≡ 0 = omega arith in
-    bit-low (2 ^ suc p) ∙ ap (λ (x : ℕ). eqb x 1) even ∙ sym (ne-eqb 0 (suc p) (λ z. omega (arith, z)))
-bit-power (suc k) zero = sym (bit-half k 1) ∙ bit-zero k ∙ sym (ne-eqb (suc k) 0 (λ z. omega (arith, z)))
-bit-power (suc k) (suc p) =
-    let e = pow-suc 2 p in
-    let half : 2 ^ suc p / 2 ≡ 2 ^ p = omega arith in
-    sym (bit-half k (2 ^ suc p)) ∙ ap (bit k) half ∙ bit-power k p ∙ on (ℕ-discrete k p)
-  where
-    on : Dec (k ≡ p) → eqb k p ≡ eqb (suc k) (suc p)
-    on (yes e) = eq-eqb k p e ∙ sym (eq-eqb (suc k) (suc p) (ap suc e))
-    on (no n) = ne-eqb k p n ∙ sym (ne-eqb (suc k) (suc p) (λ e. n (omega (arith, e))))
-
--- The bits of the sum are its pages: a page that is in no later term has no bit in common with them.
-module _ (p : ℕ) (ps : List ℕ) (new : member p ps ≡ false) (h : (k : ℕ) → bit k (setOf ps) ≡ member k ps) where
-  sum-or : setOf (p ∷ ps) ≡ bitOr (2 ^ p) (setOf ps)
-  unfolding setOf
-  sum-or =
-      sym (or-disjoint (2 ^ p) (setOf ps)
-      (and-none (suc p) (2 ^ p) (setOf ps) (pow-lt (omega arith)) (λ q b. h q ∙ ap (λ (x : ℕ). member x ps) (eqb-true q p (sym (bit-power q p) ∙ b)) ∙ new)))
-
-bits-listed : (l : List ℕ) → Distinct l → (k : ℕ) → bit k (setOf l) ≡ member k l
-unfolding setOf member
-bits-listed [] d k = bit-zero k
-bits-listed (p ∷ ps) d k =
-    ap (bit k) (sum-or p ps (d .0) (bits-listed ps (d .1))) ∙ bit-or k (2 ^ p) (setOf ps) ∙ ap₂ _||_ (bit-power k p) (bits-listed ps (d .1) k)
-
-pub set-small : (n : ℕ) (l : List ℕ) → Distinct l → Each (λ p. p < n) l → setOf l < 2 ^ n
-unfolding setOf
-set-small n [] d h = pow-pos n
-set-small n (p ∷ ps) d h =
-    subst (λ (x : ℕ). x < 2 ^ n) (sym (sum-or p ps (d .0) (bits-listed ps (d .1)))) (or-lt n (2 ^ p) (setOf ps) (pow-lt (h .0)) (set-small n ps (d .1) (h .1)))
 
 -- Lists that ascend and have the same members are the same.
 not-less : (x y : ℕ) (ys : List ℕ) → Above y ys → member x (y ∷ ys) ≡ true → y ≤ x
@@ -104,7 +56,7 @@ module _ (l : List ℕ) (up : Ascending l) (low : (p : ℕ) → member p l ≡ t
   pub listed-set : sets.pagesOf (setOf l) ≡ l
   listed-set =
       same-members (sets.pagesOf (setOf l)) l (pages-ascend (setOf l)) up
-      (λ p. member-pages (setOf l) p listed-small ∙ bits-listed l (ascending-distinct l up) p)
+      (λ p. member-pages (setOf l) p listed-small ∙ set-members l (ascending-distinct l up) p)
 
 -- and a row of such pages, none of which is 255, too.
 unused : (k : ℕ) → used (replicate k (page 255)) ≡ []

@@ -1,13 +1,19 @@
--- Registers as words: where they are bytes and words, as their fields' types say, the words give them back. A list of six or eight bytes is written out.
+-- Registers as words, beside a pool's figures: where they are bytes and words, as their fields' types say, the words give them back. A list of six or eight bytes is written out.
 use mathlib.Core.Path.{_≡_, refl, ap₂, sym}
 use mathlib.Core.Bool.{Bool, true, false}
 use mathlib.Core.List.{List, [], _∷_}
-use Prim.Native.Nat.{ℕ, _+_, _*_, _/_, _%_, _<_}
+use Prim.Native.Nat.{ℕ, _+_, _*_, _/_, _%_, _^_, _<_}
 use native.Mathlib.Omega.{arith}
 use lib.ListN.{length, getD}
 use Rattle.rules.specs.Bits.{bit, flag, wordOf, wordAt}
-use Rattle.rules.specs.Chip.{Registers}
-use Rattle.lists.specs.Each.{each-at}
+use Rattle.rules.specs.Lists.{member, some?, freeBelow}
+use Rattle.rules.specs.Chip.{Registers, Pool}
+use Rattle.rules.specs.WellFormed.{Distinct, Formed}
+use Rattle.lists.specs.Facts.{free-few}
+use Rattle.lists.specs.Each.{each-at, member-each}
+use Rattle.wellformed.specs.Count.{distinct-few}
+use Rattle.wellformed.specs.Pool.{has-small}
+use Rattle.sets.specs.Members.{setOf, set-small}
 use Rattle.state.specs.View.{word, bytes, registersIn, Latches, Kept}
 use Rattle.state.specs.Written.{Written, written-out}
 use Rattle.state.specs.Only.{wordsOf}
@@ -79,8 +85,23 @@ unfolding Written wordAt
 eight-back = written-out 8 (λ l. Bytes l → bytes (wordAt 0 l) (bytes (wordAt 2 l) (bytes (wordAt 4 l) (bytes (wordAt 6 l) []))) ≡ l)
     (λ a b c d e f g j h. λ i. low-of a b (h 0) i ∷ high-of a b (h 0) i ∷ low-of c d (h 2) i ∷ high-of c d (h 2) i ∷ low-of e f (h 4) i ∷ high-of e f (h 4) i ∷ low-of g j (h 6) i ∷ high-of g j (h 6) i ∷ [])
 
-module _ (r : Registers) (t : Typed r) (a b c : ℕ) where
-  pub registers-back : registersIn (wordsOf r a b c) ≡ r
+-- A pool's figures are words, where it is well formed: an allocated packet is below 24, so distinct ones are at most 24, and their set has 24 bits.
+record SmallQueue (l : List ℕ) : Type 0 where
+  count : length l < 65536
+  lower : setOf l % 65536 < 65536
+  upper : setOf l / 65536 < 65536
+
+small-queue : (ls : List (List ℕ)) (l : List ℕ) → length ls ≡ 24 → Distinct l → ((k : ℕ) → member k l ≡ true → some? (getD ls k []) ≡ true) → SmallQueue l
+small-queue ls l long d h =
+    let low : (k : ℕ) → member k l ≡ true → k < 24 = λ k m. omega (arith, has-small ls k (h k m), long) in
+    let small : setOf l < 2 ^ 24 = set-small 24 l d (member-each (λ k. k < 24) l low) in
+    record { count = omega (arith, distinct-few 24 l d low); lower = omega arith; upper = omega (arith, small) }
+
+free-small : (ls : List (List ℕ)) → wordOf 24 (length (freeBelow 24 ls)) < 65536
+free-small ls = two _ _ (omega arith) (omega (arith, free-few 24 ls))
+
+module _ (r : Registers) (t : Typed r) (p : Pool) where
+  pub registers-back : registersIn (wordsOf r p) ≡ r
   registers-back =
       let x = r .sending .txEmpty in
       let y = r .receiving .overrun in
@@ -103,7 +124,7 @@ module _ (r : Registers) (t : Typed r) (a b c : ℕ) where
         mask = high-of 0 (r .mask) (omega arith) i;
       }
 
-  pub words-kept : r .numbers .bank < 8 → Kept (wordsOf r a b c)
+  pub words-kept : r .numbers .bank < 8 → Kept (wordsOf r p)
   words-kept h = record {
     whole = refl;
     fixed = record {
@@ -112,20 +133,23 @@ module _ (r : Registers) (t : Typed r) (a b c : ℕ) where
       latched = latches (r .sending .txEmpty) (r .receiving .overrun);
       maskLow = low-of 0 (r .mask) (omega arith);
     };
-    blank = record { none4 = refl; none15 = refl; none16 = refl; none18 = refl; none20 = refl; none21 = refl; none23 = refl; none28 = refl; none29 = refl; none30 = refl; none31 = refl };
+    blank = record { none15 = refl; none16 = refl; none18 = refl; none20 = refl; none21 = refl; none23 = refl };
   }
 
-  -- and they are words, where the queues' lengths are
-  pub words-typed : a < 65536 → b < 65536 → c < 65536 → Words (wordsOf r a b c)
+  -- and they are words, where the chip is well formed
+  pub words-typed : Formed 24 r p → Words (wordsOf r p)
   unfolding wordAt
-  words-typed f g h i =
+  words-typed well i =
+      let queues = well .queues in
+      let rx = small-queue (p .pages) (p .rx) (well .count) (queues .rxDistinct) (queues .rxAllocated) in
+      let tx = small-queue (p .pages) (p .tx) (well .count) (queues .txDistinct) (queues .txAllocated) in
       let byte = t .bytes in
       let words = t .words in
       let station : (k : ℕ) → wordAt k (r .receiving .station) < 65536 = λ k. two _ _ (t .station k) (t .station (k + 1)) in
       let table : (k : ℕ) → wordAt k (r .receiving .table) < 65536 = λ k. two _ _ (t .table k) (t .table (k + 1)) in
       let none : 0 < 65536 = omega arith in
       let high : 0x33 < 256 = omega arith in
-      each-at (λ x. x < 65536) (wordsOf r a b c) i 0 (
+      each-at (λ x. x < 65536) (wordsOf r p) i 0 (
         words 0,
         (
           words 1,
@@ -134,17 +158,17 @@ module _ (r : Registers) (t : Typed r) (a b c : ℕ) where
             (
               words 2,
               (
-                none,
+                free-small (p .pages),
                 (
                   two _ _ (byte 0) high,
                   (
-                    f,
+                    rx .count,
                     (
                       two _ _ (byte 1) high,
                       (
-                        g,
+                        tx .count,
                         (
-                          h,
+                          omega (arith, queues .completionFew),
                           (
                             station 0,
                             (
@@ -173,7 +197,7 @@ module _ (r : Registers) (t : Typed r) (a b c : ℕ) where
                                                     two _ _ (omega arith) (byte 4),
                                                     (
                                                       none,
-                                                      (table 0, (table 2, (table 4, (table 6, (none, (none, (none, (none, tt)))))))),
+                                                      (table 0, (table 2, (table 4, (table 6, (rx .lower, (rx .upper, (tx .lower, (tx .upper, tt)))))))),
                                                     ),
                                                   ),
                                                 ),

@@ -1,2 +1,3 @@
--- Changes of the queues.
+-- Changes of the queues and of the page sets.
 pub mod Queues
+pub mod Pages

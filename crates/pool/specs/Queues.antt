@@ -1,57 +1,64 @@
 -- What a change of the queues promises, and what becomes of the three queues where the bytes of one are replaced.
 use mathlib.Core.Path.{_≡_, refl, ap, sym, subst, _∙_}
-use mathlib.Core.List.{List, [], _∷_, _++_, map}
-use Prim.Native.Nat.{ℕ, _+_, _*_, _<_}
+use mathlib.Core.Bool.{true, false}
+use mathlib.Core.List.{List, [], _∷_, map}
+use Prim.Native.Nat.{ℕ, _<_}
 use native.Mathlib.Omega.{arith}
-use lib.ListN.{length, take, drop, replicate}
-use Rattle.rules.specs.Chip.{Registers, Pool, Chip, emptyPool}
+use lib.ListN.{length, take, getD}
+use Rattle.rules.specs.Lists.{member, some?}
+use Rattle.rules.specs.Chip.{Registers, Pool, emptyPool}
 use Rattle.rules.specs.Fields.{setRx, setTx, setCompletion, inPool}
+use Rattle.rules.specs.WellFormed.{Distinct}
+use Rattle.lists.specs.Each.{Each, member-each}
+use Rattle.wellformed.specs.Pool.{has-small}
 use Rattle.sets.specs.Views.{pagesOf}
-use Rattle.sets.specs.Lists.{lists-length}
+use Rattle.sets.specs.Members.{setOf}
 use Rattle.queues.specs.Slots.{Slots}
 use Rattle.queues.specs.Parts.{slots, replaced, replaced-long, replaced-same, replaced-other, slots-entries, slots-as}
-use Rattle.state.specs.View.{word, registersIn, counts, queueIn, poolIn, view, Kept}
-use Rattle.state.specs.Promise.{QueuesIn, Sound}
+use Rattle.state.specs.View.{word, registersIn, figures, withRx, withTx, withCompletion, queueIn, poolIn, view, Kept}
+use Rattle.state.specs.Promise.{Halves, QueuesIn, SetsIn, Sound, Ready}
 use Rattle.state.specs.Stores.{Recounts}
 
--- the pool changes by f, whatever the page sets; no register changes
+-- packet k may join the entries l: all are packet numbers, and each stands there once
+pub record MayJoin (k : ℕ) (l : List ℕ) : Type 0 where
+  pub once : Distinct (k ∷ l)
+  pub small : Each (λ j. j < 24) (k ∷ l)
+
+-- the pool changes by f, whatever the page sets; no register changes, nor MIR
 pub record Rejoins (f : Pool → Pool) (w q w′ q′ : List ℕ) : Type 0 where
   pub regs : registersIn w′ ≡ registersIn w
-  pub pool : (s : List ℕ) → poolIn (counts w′) s q′ ≡ f (poolIn (counts w) s q)
+  pub pool : (s : List ℕ) → poolIn (figures w′) s q′ ≡ f (poolIn (figures w) s q)
+  pub free : word w′ 4 ≡ word w 4
   pub kept : Kept w′
-  pub queues : QueuesIn (counts w′) q′
+  pub queues : QueuesIn (figures w′) q′
 
 -- no packet has pages and no queue has entries; no register changes
 pub record Emptied (w w′ s′ q′ : List ℕ) : Type 0 where
   pub regs : registersIn w′ ≡ registersIn w
-  pub pool : poolIn (counts w′) s′ q′ ≡ emptyPool 24
+  pub pool : poolIn (figures w′) s′ q′ ≡ emptyPool 24
   pub sound : Sound w′ s′ q′
 
 -- the chip after it; and the state is sound
 pub rejoins-chip : {f : Pool → Pool} {w q w′ q′ : List ℕ} → Rejoins f w q w′ q′ → (s mem : List ℕ) → view w′ s q′ mem ≡ inPool f (view w s q mem)
 rejoins-chip {f} {w} {q} {w′} {q′} a s mem =
-    ap (λ (r : Registers). record { regs = r; pool = poolIn (counts w′) s q′; memory = mem }) (a .regs)
+    ap (λ (r : Registers). record { regs = r; pool = poolIn (figures w′) s q′; memory = mem }) (a .regs)
     ∙ ap (λ (p : Pool). record { regs = registersIn w; pool = p; memory = mem }) (a .pool s)
 
-pub rejoins-sound : {f : Pool → Pool} {w q w′ q′ s : List ℕ} → Rejoins f w q w′ q′ → length s ≡ 24 → Sound w′ s q′
-rejoins-sound a e = record { kept = a .kept; queues = a .queues; sets = e }
+pub rejoins-sets : {f : Pool → Pool} {w q w′ q′ s : List ℕ} → Rejoins f w q w′ q′ → SetsIn (figures w) s → SetsIn (figures w′) s
+rejoins-sets a e = record { many = e .many; free = a .free ∙ e .free }
+
+pub rejoins-sound : {f : Pool → Pool} {w q w′ q′ s : List ℕ} → Rejoins f w q w′ q′ → SetsIn (figures w) s → Sound w′ s q′
+rejoins-sound a e = record { kept = a .kept; queues = a .queues; sets = rejoins-sets a e }
 
 pub rejoins-both : {f g : Pool → Pool} {w q w′ q′ w″ q″ : List ℕ} → Rejoins f w q w′ q′ → Rejoins g w′ q′ w″ q″ → Rejoins (λ p. g (f p)) w q w″ q″
-rejoins-both {f} {g} a b = record { regs = b .regs ∙ a .regs; pool = λ s. b .pool s ∙ ap g (a .pool s); kept = b .kept; queues = b .queues }
+rejoins-both {f} {g} a b = record { regs = b .regs ∙ a .regs; pool = λ s. b .pool s ∙ ap g (a .pool s); free = b .free ∙ a .free; kept = b .kept; queues = b .queues }
 
--- all queues emptied, beside page sets that are empty
-pub emptied : {w q w′ q′ : List ℕ} (s′ : List ℕ) → Rejoins (λ p. setCompletion [] (setTx [] (setRx [] p))) w q w′ q′ → map pagesOf s′ ≡ replicate 24 [] → Emptied w w′ s′ q′
-emptied s′ a e = record {
-  regs = a .regs;
-  pool = a .pool s′ ∙ ap (λ (ls : List (List ℕ)). record { pages = ls; rx = []; tx = []; completion = [] }) e;
-  sound = rejoins-sound a (sym (lists-length s′) ∙ ap length e);
-}
-
--- from the counts that are stored, and the queues that they are right for
-pub rejoined : {f : Pool → Pool} {c′ w q w′ q′ : List ℕ} → Recounts c′ w w′ → QueuesIn c′ q′ × ((s : List ℕ) → poolIn c′ s q′ ≡ f (poolIn (counts w) s q)) → Rejoins f w q w′ q′
-rejoined {q′ = q′} r a = record {
+-- from the figures that are stored, and the queues that they are right for
+pub rejoined : {f : Pool → Pool} {c′ w q w′ q′ : List ℕ} → Recounts c′ w w′ → word c′ 3 ≡ word w 4 → QueuesIn c′ q′ × ((s : List ℕ) → poolIn c′ s q′ ≡ f (poolIn (figures w) s q)) → Rejoins f w q w′ q′
+rejoined {q′ = q′} r e a = record {
   regs = r .regs;
   pool = λ s. ap (λ (x : List ℕ). poolIn x s q′) (r .counted) ∙ a .1 s;
+  free = ap (λ (x : List ℕ). word x 3) (r .counted) ∙ e;
   kept = r .kept;
   queues = subst (λ (x : List ℕ). QueuesIn x q′) (sym (r .counted)) (a .0);
 }
@@ -72,20 +79,52 @@ module _ (c q p l : List ℕ) (n : ℕ) (h : QueuesIn c q) (e : Slots p n l) (lo
   other-entries : (j k count : ℕ) → k < 3 → (j ≡ k → ⊥) → queueIn j count (replaced k p q) ≡ queueIn j count q
   other-entries j k count small apart = ap (take count) (replaced-other j k p q long (h .long) small apart)
 
-  pub requeued-rx : QueuesIn (n ∷ word c 1 ∷ word c 2 ∷ []) (replaced 0 p q) × ((s : List ℕ) → poolIn (n ∷ word c 1 ∷ word c 2 ∷ []) s (replaced 0 p q) ≡ setRx l (poolIn c s q))
-  requeued-rx = (
-    record { long = replaced-long 0 p q long (h .long) (omega arith); rx = own 0 (omega arith); tx = other 1 0 _ (omega arith) (λ x. absurd (omega arith)) (h .tx); completion = other 2 0 _ (omega arith) (λ x. absurd (omega arith)) (h .completion) },
+  pub requeued-rx : (low high : ℕ) → Halves low high (setOf l) → QueuesIn (withRx n low high c) (replaced 0 p q) × ((s : List ℕ) → poolIn (withRx n low high c) s (replaced 0 p q) ≡ setRx l (poolIn c s q))
+  requeued-rx low high m = (
+    record {
+      long = replaced-long 0 p q long (h .long) (omega arith);
+      rx = own 0 (omega arith);
+      tx = other 1 0 _ (omega arith) (λ x. absurd (omega arith)) (h .tx);
+      completion = other 2 0 _ (omega arith) (λ x. absurd (omega arith)) (h .completion);
+      inRx = rw (own-entries 0 (omega arith)) m;
+      inTx = rw (other-entries 1 0 (word c 1) (omega arith) (λ x. absurd (omega arith))) (h .inTx);
+    },
     λ s. rw (own-entries 0 (omega arith), other-entries 1 0 (word c 1) (omega arith) (λ x. absurd (omega arith)), other-entries 2 0 (word c 2) (omega arith) (λ x. absurd (omega arith))) refl,
   )
 
-  pub requeued-tx : QueuesIn (word c 0 ∷ n ∷ word c 2 ∷ []) (replaced 1 p q) × ((s : List ℕ) → poolIn (word c 0 ∷ n ∷ word c 2 ∷ []) s (replaced 1 p q) ≡ setTx l (poolIn c s q))
-  requeued-tx = (
-    record { long = replaced-long 1 p q long (h .long) (omega arith); rx = other 0 1 _ (omega arith) (λ x. absurd (omega arith)) (h .rx); tx = own 1 (omega arith); completion = other 2 1 _ (omega arith) (λ x. absurd (omega arith)) (h .completion) },
+  pub requeued-tx : (low high : ℕ) → Halves low high (setOf l) → QueuesIn (withTx n low high c) (replaced 1 p q) × ((s : List ℕ) → poolIn (withTx n low high c) s (replaced 1 p q) ≡ setTx l (poolIn c s q))
+  requeued-tx low high m = (
+    record {
+      long = replaced-long 1 p q long (h .long) (omega arith);
+      rx = other 0 1 _ (omega arith) (λ x. absurd (omega arith)) (h .rx);
+      tx = own 1 (omega arith);
+      completion = other 2 1 _ (omega arith) (λ x. absurd (omega arith)) (h .completion);
+      inRx = rw (other-entries 0 1 (word c 0) (omega arith) (λ x. absurd (omega arith))) (h .inRx);
+      inTx = rw (own-entries 1 (omega arith)) m;
+    },
     λ s. rw (other-entries 0 1 (word c 0) (omega arith) (λ x. absurd (omega arith)), own-entries 1 (omega arith), other-entries 2 1 (word c 2) (omega arith) (λ x. absurd (omega arith))) refl,
   )
 
-  pub requeued-completion : QueuesIn (word c 0 ∷ word c 1 ∷ n ∷ []) (replaced 2 p q) × ((s : List ℕ) → poolIn (word c 0 ∷ word c 1 ∷ n ∷ []) s (replaced 2 p q) ≡ setCompletion l (poolIn c s q))
+  pub requeued-completion : QueuesIn (withCompletion n c) (replaced 2 p q) × ((s : List ℕ) → poolIn (withCompletion n c) s (replaced 2 p q) ≡ setCompletion l (poolIn c s q))
   requeued-completion = (
-    record { long = replaced-long 2 p q long (h .long) (omega arith); rx = other 0 2 _ (omega arith) (λ x. absurd (omega arith)) (h .rx); tx = other 1 2 _ (omega arith) (λ x. absurd (omega arith)) (h .tx); completion = own 2 (omega arith) },
+    record {
+      long = replaced-long 2 p q long (h .long) (omega arith);
+      rx = other 0 2 _ (omega arith) (λ x. absurd (omega arith)) (h .rx);
+      tx = other 1 2 _ (omega arith) (λ x. absurd (omega arith)) (h .tx);
+      completion = own 2 (omega arith);
+      inRx = rw (other-entries 0 2 (word c 0) (omega arith) (λ x. absurd (omega arith))) (h .inRx);
+      inTx = rw (other-entries 1 2 (word c 1) (omega arith) (λ x. absurd (omega arith))) (h .inTx);
+    },
     λ s. rw (other-entries 0 2 (word c 0) (omega arith) (λ x. absurd (omega arith)), other-entries 1 2 (word c 1) (omega arith) (λ x. absurd (omega arith)), own-entries 2 (omega arith)) refl,
   )
+
+-- Who may join, on a state that is in order: a packet number that the queue has not.
+module _ {w s q : List ℕ} (r : Ready w s q) (k : ℕ) (number : k < 24) where
+  small-entries : (l : List ℕ) → ((j : ℕ) → member j l ≡ true → some? (getD (map pagesOf s) j []) ≡ true) → Each (λ j. j < 24) l
+  small-entries l h = member-each (λ j. j < 24) l (λ j m. omega (arith, has-small (map pagesOf s) j (h j m), r .well .count))
+
+  pub may-join-rx : member k (queueIn 0 (word w 6) q) ≡ false → MayJoin k (queueIn 0 (word w 6) q)
+  may-join-rx e = record { once = (e, r .well .queues .rxDistinct); small = (number, small-entries _ (r .well .queues .rxAllocated)) }
+
+  pub may-join-tx : member k (queueIn 1 (word w 8) q) ≡ false → MayJoin k (queueIn 1 (word w 8) q)
+  may-join-tx e = record { once = (e, r .well .queues .txDistinct); small = (number, small-entries _ (r .well .queues .txAllocated)) }

@@ -1,4 +1,17 @@
-// Who is in which queue: the queues and their counts change here, and in a soft reset, which zeroes both.
+// Who is in which queue, and which pages are free. Queues, page sets and the figures that the words keep of them change here alone (a soft reset zeroes the words before):
+// each figure in the one function that grants pages, gives them back, joins a queue or leaves it, and where a queue or all is emptied.
+mod figures; // figures.rt: what the words keep of RX and of TX
+mod pages; // pages.rt: pages granted and given back, and how many are free
+
+use figures::rx_bits;
+use figures::store_none;
+use figures::store_rx;
+use figures::store_tx;
+use figures::tx_bits;
+pub use pages::free_count;
+pub use pages::give_back;
+pub use pages::grant;
+use queues::marks;
 use sets::Packet;
 use state::COMPLETION;
 use state::COMPLETION_COUNT;
@@ -14,9 +27,9 @@ ghost use Prim.Native.Nat.{ℕ, _<_};
 ghost use lib.ListN.{length, getD, drop};
 ghost use Rattle.rules.specs.Lists.{member};
 ghost use Rattle.rules.specs.Fields.{setRx, setTx, setCompletion};
-ghost use Rattle.state.specs.View.{word, counts, queueIn, Kept};
-ghost use Rattle.state.specs.Promise.{QueuesIn, Sound};
-ghost use Rattle.pool.specs.Queues.{Rejoins, Emptied};
+ghost use Rattle.state.specs.View.{word, figures, queueIn, Kept};
+ghost use Rattle.state.specs.Promise.{QueuesIn, Ready};
+ghost use Rattle.pool.specs.Queues.{MayJoin, Rejoins, Emptied};
 
 // The head of RX.
 pub fn rx_head(queues: &[u8]) -> Packet
@@ -43,59 +56,70 @@ pub fn completion_head(queues: &[u8]) -> Packet
 }
 
 // Is the packet in RX or TX?
-pub fn is_queued(words: &[u16], queues: &[u8], packet: Packet) -> bool
-    requires { ⌜ Kept (now words) × QueuesIn (counts (now words)) (now queues) ⌝ }
-    ensures { λ b. ⌜ b ≡ member (packet .0) (queueIn 0 (word (now (words .entry)) 6) (now (queues .entry))) || member (packet .0) (queueIn 1 (word (now (words .entry)) 8) (now (queues .entry))) ⌝ }
+pub fn is_queued(words: &[u16], packet: Packet) -> bool
+    requires { ⌜ (length (now words) ≡ 32) × (packet .0 < 32) ⌝ }
+    ensures { λ b. ⌜ ((s q : List ℕ) → Ready (now (words .entry)) s q → b ≡ member (packet .0) (queueIn 0 (word (now (words .entry)) 6) q) || member (packet .0) (queueIn 1 (word (now (words .entry)) 8) q)) ⌝ }
 {
-    if queues::contains(&queues[RX..TX], words[RX_COUNT], packet) {
-        return true;
-    }
-    queues::contains(&queues[TX..COMPLETION], words[TX_COUNT], packet)
+    let rx = rx_bits(words);
+    let tx = tx_bits(words);
+    marks::has(rx | tx, packet)
 }
 
 // The packet joins the end of RX.
 pub fn join_rx(words: &mut [u16], queues: &mut [u8], packet: Packet)
-    requires { ⌜ Kept (now words) × QueuesIn (counts (now words)) (now queues) × (word (now words) 6 < 24) ⌝ }
+    requires { ⌜ Kept (now words) × QueuesIn (figures (now words)) (now queues) × (word (now words) 6 < 24) × MayJoin (packet .0) (queueIn 0 (word (now words) 6) (now queues)) ⌝ }
     ensures { λ _. ⌜ Rejoins (λ p. setRx (p .rx ++ (packet .0 ∷ [])) p) (now (words .entry)) (now (queues .entry)) (now (words .exit)) (now (queues .exit)) ⌝ }
 {
     let count = words[RX_COUNT];
+    let bits = marks::with(rx_bits(words), packet);
     queues::push(&mut queues[RX..TX], count, packet);
-    words[RX_COUNT] = count + 1;
+    store_rx(words, count + 1, bits);
 }
 
-// The head of RX leaves it.
-pub fn leave_rx(words: &mut [u16], queues: &mut [u8])
-    requires { ⌜ Kept (now words) × QueuesIn (counts (now words)) (now queues) × (0 < word (now words) 6) ⌝ }
-    ensures { λ _. ⌜ Rejoins (λ p. setRx (drop 1 (p .rx)) p) (now (words .entry)) (now (queues .entry)) (now (words .exit)) (now (queues .exit)) ⌝ }
+// The head of RX leaves it, and is returned.
+pub fn leave_rx(words: &mut [u16], queues: &mut [u8]) -> Packet
+    requires { ⌜ Kept (now words) × QueuesIn (figures (now words)) (now queues) × (0 < word (now words) 6) ⌝ }
+    ensures head { λ r. ⌜ r .0 ≡ getD (queueIn 0 (word (now (words .entry)) 6) (now (queues .entry))) 0 0 ⌝ }
+    ensures left { λ _. ⌜ Rejoins (λ p. setRx (drop 1 (p .rx)) p) (now (words .entry)) (now (queues .entry)) (now (words .exit)) (now (queues .exit)) ⌝ }
 {
     let count = words[RX_COUNT];
+    let head = rx_head(queues);
+    let before = rx_bits(words);
+    let bits = marks::without(before, head);
     queues::pop(&mut queues[RX..TX], count);
-    words[RX_COUNT] = count - 1;
+    store_rx(words, count - 1, bits);
+    head
 }
 
 // The packet joins the end of TX.
 pub fn join_tx(words: &mut [u16], queues: &mut [u8], packet: Packet)
-    requires { ⌜ Kept (now words) × QueuesIn (counts (now words)) (now queues) × (word (now words) 8 < 24) ⌝ }
+    requires { ⌜ Kept (now words) × QueuesIn (figures (now words)) (now queues) × (word (now words) 8 < 24) × MayJoin (packet .0) (queueIn 1 (word (now words) 8) (now queues)) ⌝ }
     ensures { λ _. ⌜ Rejoins (λ p. setTx (p .tx ++ (packet .0 ∷ [])) p) (now (words .entry)) (now (queues .entry)) (now (words .exit)) (now (queues .exit)) ⌝ }
 {
     let count = words[TX_COUNT];
+    let bits = marks::with(tx_bits(words), packet);
     queues::push(&mut queues[TX..COMPLETION], count, packet);
-    words[TX_COUNT] = count + 1;
+    store_tx(words, count + 1, bits);
 }
 
-// The head of TX leaves it.
-pub fn leave_tx(words: &mut [u16], queues: &mut [u8])
-    requires { ⌜ Kept (now words) × QueuesIn (counts (now words)) (now queues) × (0 < word (now words) 8) ⌝ }
-    ensures { λ _. ⌜ Rejoins (λ p. setTx (drop 1 (p .tx)) p) (now (words .entry)) (now (queues .entry)) (now (words .exit)) (now (queues .exit)) ⌝ }
+// The head of TX leaves it, and is returned.
+pub fn leave_tx(words: &mut [u16], queues: &mut [u8]) -> Packet
+    requires { ⌜ Kept (now words) × QueuesIn (figures (now words)) (now queues) × (0 < word (now words) 8) ⌝ }
+    ensures head { λ r. ⌜ r .0 ≡ getD (queueIn 1 (word (now (words .entry)) 8) (now (queues .entry))) 0 0 ⌝ }
+    ensures left { λ _. ⌜ Rejoins (λ p. setTx (drop 1 (p .tx)) p) (now (words .entry)) (now (queues .entry)) (now (words .exit)) (now (queues .exit)) ⌝ }
 {
     let count = words[TX_COUNT];
+    let head = tx_head(queues);
+    let before = tx_bits(words);
+    let bits = marks::without(before, head);
     queues::pop(&mut queues[TX..COMPLETION], count);
-    words[TX_COUNT] = count - 1;
+    store_tx(words, count - 1, bits);
+    head
 }
 
 // The packet joins the end of completion.
 pub fn join_completion(words: &mut [u16], queues: &mut [u8], packet: Packet)
-    requires { ⌜ Kept (now words) × QueuesIn (counts (now words)) (now queues) × (word (now words) 9 < 24) ⌝ }
+    requires { ⌜ Kept (now words) × QueuesIn (figures (now words)) (now queues) × (word (now words) 9 < 24) ⌝ }
     ensures { λ _. ⌜ Rejoins (λ p. setCompletion (p .completion ++ (packet .0 ∷ [])) p) (now (words .entry)) (now (queues .entry)) (now (words .exit)) (now (queues .exit)) ⌝ }
 {
     let count = words[COMPLETION_COUNT];
@@ -105,7 +129,7 @@ pub fn join_completion(words: &mut [u16], queues: &mut [u8], packet: Packet)
 
 // The head of completion leaves it.
 pub fn leave_completion(words: &mut [u16], queues: &mut [u8])
-    requires { ⌜ Kept (now words) × QueuesIn (counts (now words)) (now queues) × (0 < word (now words) 9) ⌝ }
+    requires { ⌜ Kept (now words) × QueuesIn (figures (now words)) (now queues) × (0 < word (now words) 9) ⌝ }
     ensures { λ _. ⌜ Rejoins (λ p. setCompletion (drop 1 (p .completion)) p) (now (words .entry)) (now (queues .entry)) (now (words .exit)) (now (queues .exit)) ⌝ }
 {
     let count = words[COMPLETION_COUNT];
@@ -113,40 +137,30 @@ pub fn leave_completion(words: &mut [u16], queues: &mut [u8])
     words[COMPLETION_COUNT] = count - 1;
 }
 
-// RX is empty.
-pub fn empty_rx(words: &mut [u16], queues: &mut [u8])
-    requires { ⌜ Kept (now words) × QueuesIn (counts (now words)) (now queues) ⌝ }
-    ensures { λ _. ⌜ Rejoins (λ p. setRx [] p) (now (words .entry)) (now (queues .entry)) (now (words .exit)) (now (queues .exit)) ⌝ }
-{
-    queues::empty(&mut queues[RX..TX]);
-    words[RX_COUNT] = 0;
-}
-
 // TX is empty.
 pub fn empty_tx(words: &mut [u16], queues: &mut [u8])
-    requires { ⌜ Kept (now words) × QueuesIn (counts (now words)) (now queues) ⌝ }
+    requires { ⌜ Kept (now words) × QueuesIn (figures (now words)) (now queues) ⌝ }
     ensures { λ _. ⌜ Rejoins (λ p. setTx [] p) (now (words .entry)) (now (queues .entry)) (now (words .exit)) (now (queues .exit)) ⌝ }
 {
     queues::empty(&mut queues[TX..COMPLETION]);
-    words[TX_COUNT] = 0;
+    store_tx(words, 0, 0);
 }
 
 // Completion is empty.
 pub fn empty_completion(words: &mut [u16], queues: &mut [u8])
-    requires { ⌜ Kept (now words) × QueuesIn (counts (now words)) (now queues) ⌝ }
+    requires { ⌜ Kept (now words) × QueuesIn (figures (now words)) (now queues) ⌝ }
     ensures { λ _. ⌜ Rejoins (λ p. setCompletion [] p) (now (words .entry)) (now (queues .entry)) (now (words .exit)) (now (queues .exit)) ⌝ }
 {
     queues::empty(&mut queues[COMPLETION..QUEUES_END]);
     words[COMPLETION_COUNT] = 0;
 }
 
-// No packet has pages, and all queues are empty.
+// No packet has pages, and all queues are empty, whatever the figures were.
 pub fn reset(words: &mut [u16], sets: &mut [u32], queues: &mut [u8])
-    requires { ⌜ Sound (now words) (now sets) (now queues) ⌝ }
+    requires { ⌜ Kept (now words) × (length (now sets) ≡ 24) × (length (now queues) ≡ 72) ⌝ }
     ensures { λ _. ⌜ Emptied (now (words .entry)) (now (words .exit)) (now (sets .exit)) (now (queues .exit)) ⌝ }
 {
     sets::cleared(sets);
-    empty_rx(words, queues);
-    empty_tx(words, queues);
-    empty_completion(words, queues);
+    queues::empty(queues);
+    store_none(words);
 }

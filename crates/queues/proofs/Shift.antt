@@ -4,16 +4,13 @@ use mathlib.Core.List.{List, [], _∷_, _++_}
 use Prim.Native.Nat.{ℕ, suc, _+_, _-_, _<_}
 use native.Mathlib.Numerals.{add-one}
 use native.Mathlib.Omega.{arith}
-use lib.ListN.{length, take, drop, getD, set, replicate, List·getD-append, length-append, length-drop, length-replicate, length-set}
+use lib.ListN.{length, take, drop, getD, set, replicate, length-append, length-drop, length-replicate, length-set}
 use lib.Seq.{drop-cons, set-at, take-suc, take-at, drop-at, append-snoc, length-take-le, getD-append-add, getD-drop}
 use Rattle.queues.specs.Slots.{Slots}
 
 pub first : (s : List ℕ) (count : ℕ) (l : List ℕ) → Slots s count l → 0 < count → getD s 0 0 ≡ getD l 0 0
 first s count [] q h = absurd (omega (arith, q .many))
 first s count (x ∷ xs) q h = rw (q .same)
-
-pub entry-at : (s : List ℕ) (count : ℕ) (l : List ℕ) (i : ℕ) → Slots s count l → i < count → getD s i 0 ≡ getD l i 0
-entry-at s count l i q h = ap (λ (t : List ℕ). getD t i 0) (q .same) ∙ List·getD-append l (replicate (length s - count) 0) 0 i (omega (arith, q .many))
 
 pub pushed : (s : List ℕ) (count x : ℕ) (l : List ℕ) → count < length s → Slots s count l → Slots (set s count x) (count + 1) (l ++ (x ∷ []))
 pushed s count x l h q =

@@ -1,10 +1,11 @@
 // Queues of packet numbers in a lent part of bytes, the head first; bytes behind the last entry are 0. The count is kept beside them.
+pub mod marks; // marks.rt: the packets of a queue as bits
+
 use sets::Packet;
 ghost use mathlib.Core.Path.{_≡_};
 ghost use mathlib.Core.List.{List, [], _∷_, _++_};
 ghost use Prim.Native.Nat.{ℕ, _+_, _-_, _≤_, _<_};
 ghost use lib.ListN.{drop, getD, length};
-ghost use Rattle.rules.specs.Lists.{member};
 ghost use Rattle.queues.specs.Slots.{Slots};
 
 // The head.
@@ -13,22 +14,6 @@ pub fn head(slots: &[u8]) -> Packet
     ensures { λ r. ⌜ ((count : ℕ) (l : List ℕ) → Slots (now (slots .entry)) count l → 0 < count → r .0 ≡ getD l 0 0) ⌝ }
 {
     Packet(slots[0])
-}
-
-// Is the packet one of the entries?
-pub fn contains(slots: &[u8], count: u16, packet: Packet) -> bool
-    requires { ⌜ count ≤ length (now slots) ⌝ }
-    ensures { λ b. ⌜ ((l : List ℕ) → Slots (now (slots .entry)) count l → b ≡ member (packet .0) l) ⌝ }
-{
-    let last = count as usize;
-    let mut i = 0;
-    while i < last {
-        if packet.0 == slots[i] {
-            return true;
-        }
-        i += 1;
-    }
-    false
 }
 
 // One more entry, at the end.

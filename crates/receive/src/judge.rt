@@ -11,14 +11,15 @@ use state::RESERVED;
 use state::flags;
 ghost use mathlib.Core.Path.{_≡_};
 ghost use mathlib.Core.Bool.{_||_};
-ghost use mathlib.Core.List.{map};
-ghost use Prim.Native.Nat.{_+_, _%_, _≤_};
+ghost use mathlib.Core.List.{List, map};
+ghost use Prim.Native.Nat.{ℕ, _+_, _%_, _≤_};
 ghost use lib.Dec.{ltb};
 ghost use lib.ListN.{length};
 ghost use Rattle.rules.specs.Lists.{freeBelow};
 ghost use Rattle.rules.specs.Receive.{dropped, needed, judge};
 ghost use Rattle.sets.specs.Views.{pagesOf};
-ghost use Rattle.state.specs.View.{word, registersIn};
+ghost use Rattle.state.specs.View.{word, registersIn, figures};
+ghost use Rattle.state.specs.Promise.{SetsIn};
 ghost use Rattle.receive.specs.Arrivals.{arrivalOf, frameOf, withControl};
 
 // Flagged or under 64 bytes.
@@ -45,17 +46,17 @@ fn is_dropped(control: u16, frame: &[u8], badcrc: bool, alignment: bool) -> bool
 }
 
 // Fewer pages are free than the frame needs together with those reserved for transmit, the low byte of their word.
-fn is_full(words: &[u16], sets: &[u32], len: usize) -> bool
+fn is_full(words: &[u16], len: usize) -> bool
     requires { ⌜ (length (now words) ≡ 32) × (18 ≤ len) × (len ≤ 1532) ⌝ }
-    ensures { λ b. ⌜ b ≡ ltb (length (freeBelow 24 (map pagesOf (now (sets .entry))))) (needed (registersIn (now (words .entry))) len + word (now (words .entry)) 5 % 256) ⌝ }
+    ensures { λ b. ⌜ ((s : List ℕ) → SetsIn (figures (now (words .entry))) s → b ≡ ltb (length (freeBelow 24 (map pagesOf s))) (needed (registersIn (now (words .entry))) len + word (now (words .entry)) 5 % 256)) ⌝ }
 {
     let need = pages_for(data_length(words[RCR], len));
-    sets::free_count(sets) < need + (words[RESERVED] % 256) as u32
+    pool::free_count(words) < need + (words[RESERVED] % 256) as u32
 }
 
-pub fn judged(words: &[u16], sets: &[u32], frame: &[u8], badcrc: bool, alignment: bool) -> Verdict
+pub fn judged(words: &[u16], frame: &[u8], badcrc: bool, alignment: bool) -> Verdict
     requires { ⌜ (length (now words) ≡ 32) × (18 ≤ length (now frame)) ⌝ }
-    ensures { λ v. ⌜ arrivalOf v ≡ judge (registersIn (now (words .entry))) (length (freeBelow 24 (map pagesOf (now (sets .entry))))) (frameOf (now (frame .entry)) badcrc alignment) ⌝ }
+    ensures { λ v. ⌜ ((s : List ℕ) → SetsIn (figures (now (words .entry))) s → arrivalOf v ≡ judge (registersIn (now (words .entry))) (length (freeBelow 24 (map pagesOf s))) (frameOf (now (frame .entry)) badcrc alignment)) ⌝ }
 {
     if !bits::is_set(words[RCR], flags::RXEN) {
         return Verdict::Disabled;
@@ -70,7 +71,7 @@ pub fn judged(words: &[u16], sets: &[u32], frame: &[u8], badcrc: bool, alignment
     if is_dropped(words[CONTROL], frame, badcrc, alignment) {
         return Verdict::Bad;
     }
-    if is_full(words, sets, len) {
+    if is_full(words, len) {
         return Verdict::NoRoom;
     }
     Verdict::Stored

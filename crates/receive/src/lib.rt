@@ -62,7 +62,7 @@ pub fn arrived(
     if frame.len() < 18 {
         return Answer::OutsideLimits;
     }
-    let verdict = judge::judged(words, sets, frame, bad_crc, alignment);
+    let verdict = judge::judged(words, frame, bad_crc, alignment);
     match verdict {
         Verdict::Stored => stow::stowed(words, sets, queues, memory, frame, bad_crc, alignment),
         Verdict::Disabled => Answer::Done(1),

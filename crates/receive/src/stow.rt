@@ -29,7 +29,7 @@ pub fn stowed(
 {
     let n = data_length(words[RCR], frame.len());
     let number = Packet(sets::lowest_unallocated(sets) as u8);
-    let pages = sets::granted(sets, number, pages_for(n));
+    let pages = pool::grant(words, sets, number, pages_for(n));
     let status = status_of(frame, n, badcrc, alignment);
     packet::store_frame(memory, pages, status, count_of(n), frame, n);
     pool::join_rx(words, queues, number);

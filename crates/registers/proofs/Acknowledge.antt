@@ -5,16 +5,16 @@ use mathlib.Core.List.{List, []}
 use Prim.Native.Nat.{ℕ, _*_, _/_, _%_, _^_}
 use native.Mathlib.Omega.{arith}
 use lib.Dec.{eqb}
-use lib.ListN.{length, set, drop}
-use Rattle.rules.specs.Bits.{bit, flag, lowByte, highByte}
-use Rattle.rules.specs.Chip.{Registers, Pool, Chip}
+use lib.ListN.{set, drop}
+use Rattle.rules.specs.Bits.{bit, lowByte, highByte}
+use Rattle.rules.specs.Chip.{Registers, Chip}
 use Rattle.rules.specs.Fields.{setTxEmpty, setOverrun, setCompletion, setMask, inRegisters, inPool}
 use Rattle.rules.specs.Interrupts.{acknowledge}
 use Rattle.rules.specs.Registers.{Lanes, low, high, both, INTERRUPT, writeInterrupt, writeRegister}
 use Rattle.state.specs.declared.Answer.the-variants.{Done}
 use Rattle.state.specs.Meaning.{isHigh, highAfter, Joined}
-use Rattle.state.specs.View.{word, registersIn, counts, queueIn, view, Kept}
-use Rattle.state.specs.Promise.{QueuesIn, Sets, sets-as, sets-chip, Makes}
+use Rattle.state.specs.View.{word, registersIn, figures, queueIn, view, Kept}
+use Rattle.state.specs.Promise.{QueuesIn, SetsIn, Sets, sets-as, sets-chip, Makes}
 use Rattle.state.specs.Stores.{store-latches, store-mask}
 use Rattle.pool.specs.Queues.{Rejoins, rejoins-chip}
 use Rattle.registers.specs.Promises.{Acknowledged, Acknowledges}
@@ -30,20 +30,24 @@ abbrev unlatched : ℕ → Registers → Registers
 unlatched v r = setTxEmpty (r .sending .txEmpty && not (bit 2 (lowByte v))) (setOverrun (r .receiving .overrun && not (bit 4 (lowByte v))) r)
 
 -- The latches are stored, then the head of completion leaves, or there is none that must.
-module _ (v new : ℕ) (w q : List ℕ) (k : Kept w) (h : QueuesIn (counts w) q) (a : Acknowledged v (word w 13) new) where
+module _ (v new : ℕ) (w q : List ℕ) (k : Kept w) (h : QueuesIn (figures w) q) (a : Acknowledged v (word w 13) new) where
   latched : Sets (unlatched v) w (set w 13 new)
   latched = sets-as (store-latches new (a .latched) w k) (ap₂ (λ (x y : Bool). setTxEmpty x (setOverrun y (registersIn w))) (a .txEmpty) (a .overrun))
 
   pub kept-then : Kept (set w 13 new)
   kept-then = latched .kept
 
-  pub queues-then : QueuesIn (counts (set w 13 new)) q
+  pub queues-then : QueuesIn (figures (set w 13 new)) q
   queues-then = subst (λ (c : List ℕ). QueuesIn c q) (sym (latched .still)) h
+
+  mir-then : word (set w 13 new) 4 ≡ word w 4
+  mir-then = ap (λ (c : List ℕ). word c 3) (latched .still)
 
   -- where the queue of completion stays as it was
   same-queue : cond (bit 1 (lowByte v)) (drop 1 (queueIn 2 (word w 9) q)) (queueIn 2 (word w 9) q) ≡ queueIn 2 (word w 9) q → Acknowledges v w q (set w 13 new) q
   same-queue e = record {
     chip = λ s mem. sets-chip latched s q mem ∙ ap (λ (l : List ℕ). inPool (setCompletion l) (inRegisters (unlatched v) (view w s q mem))) (sym e);
+    free = mir-then;
     kept = kept-then;
     queues = queues-then;
   }
@@ -65,6 +69,7 @@ module _ (v new : ℕ) (w q : List ℕ) (k : Kept w) (h : QueuesIn (counts w) q)
     chip = λ s mem. rejoins-chip r s mem
         ∙ ap (inPool (λ p. setCompletion (drop 1 (p .completion)) p)) (sets-chip latched s q mem)
         ∙ ap (λ (b : Bool). inPool (setCompletion (cond b (drop 1 (queueIn 2 (word w 9) q)) (queueIn 2 (word w 9) q))) (inRegisters (unlatched v) (view w s q mem))) (sym (same-bit v ∙ e));
+    free = r .free ∙ mir-then;
     kept = r .kept;
     queues = r .queues;
   }
@@ -83,28 +88,31 @@ mask-alone high v m old c isHigh e = ap (λ (x : ℕ). inRegisters (setMask x) c
 mask-alone both v m old c isHigh e = absurd (let y : _≡_ {A = ℕ} 0 1 = cc in omega arith)
 
 -- A write to interrupt status and mask: the mask is stored first.
-module _ (p : Lanes) (v new m : ℕ) (w q : List ℕ) (k : Kept w) (h : QueuesIn (counts w) q) (joined : Joined p v (word w 22) new) (right : m ≡ new / 256 * 256) where
+module _ (p : Lanes) (v new m : ℕ) (w q : List ℕ) (k : Kept w) (h : QueuesIn (figures w) q) (joined : Joined p v (word w 22) new) (right : m ≡ new / 256 * 256) where
   masked : Sets (setMask (new / 256)) w (set w 22 m)
   masked = store-mask (new / 256) m right w k
 
   pub masked-kept : Kept (set w 22 m)
   masked-kept = masked .kept
 
-  pub masked-queues : QueuesIn (counts (set w 22 m)) q
+  pub masked-queues : QueuesIn (figures (set w 22 m)) q
   masked-queues = subst (λ (c : List ℕ). QueuesIn c q) (sym (masked .still)) h
 
-  pub writes-mask : isHigh p ≡ true → (s mem : List ℕ) → length s ≡ 24 → Makes (writeRegister INTERRUPT p v (view w s q mem)) (Done 0) (set w 22 m) s q mem
+  masked-sets : {s : List ℕ} → SetsIn (figures w) s → SetsIn (figures (set w 22 m)) s
+  masked-sets {s} e = subst (λ (c : List ℕ). SetsIn c s) (sym (masked .still)) e
+
+  pub writes-mask : isHigh p ≡ true → (s mem : List ℕ) → SetsIn (figures w) s → Makes (writeRegister INTERRUPT p v (view w s q mem)) (Done 0) (set w 22 m) s q mem
   unfolding writeRegister
-  writes-mask e s mem long = record {
+  writes-mask e s mem h = record {
     chip = sets-chip masked s q mem ∙ mask-alone p v (new / 256) (word w 22) (view w s q mem) e (joined .high);
     reply = refl;
-    sound = record { kept = masked-kept; queues = masked-queues; sets = long };
+    sound = record { kept = masked-kept; queues = masked-queues; sets = masked-sets h };
   }
 
-  pub writes-both : {w′ q′ : List ℕ} → isHigh p ≡ false → Acknowledges v (set w 22 m) q w′ q′ → (s mem : List ℕ) → length s ≡ 24 → Makes (writeRegister INTERRUPT p v (view w s q mem)) (Done 0) w′ s q′ mem
+  pub writes-both : {w′ q′ : List ℕ} → isHigh p ≡ false → Acknowledges v (set w 22 m) q w′ q′ → (s mem : List ℕ) → SetsIn (figures w) s → Makes (writeRegister INTERRUPT p v (view w s q mem)) (Done 0) w′ s q′ mem
   unfolding writeRegister
-  writes-both e a s mem long = record {
+  writes-both e a s mem h = record {
     chip = a .chip s mem ∙ ap (acknowledge (lowByte v)) (sets-chip masked s q mem) ∙ with-mask p v (new / 256) (word w 22) (view w s q mem) e refl (joined .high);
     reply = refl;
-    sound = record { kept = a .kept; queues = a .queues; sets = long };
+    sound = record { kept = a .kept; queues = a .queues; sets = record { many = h .many; free = a .free ∙ masked-sets h .free } };
   }

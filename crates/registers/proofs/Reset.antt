@@ -1,22 +1,21 @@
 -- The words after a reset, and the state after a soft reset.
-use mathlib.Core.Path.{_≡_, refl, ap, sym, subst, _∙_}
+use mathlib.Core.Path.{_≡_, refl, ap, sym, _∙_}
 use mathlib.Core.Bool.{true}
-use mathlib.Core.List.{List, [], _∷_, _++_, map}
+use mathlib.Core.List.{List, _++_}
 use Prim.Native.Nat.{ℕ}
-use lib.ListN.{length, set, take, drop, replicate, length-replicate}
+use lib.ListN.{length, set, take, drop, replicate, length-set}
 use Rattle.rules.specs.Bits.{bit, flag}
-use Rattle.rules.specs.Chip.{Registers, Pool, resetRegisters, emptyPool}
-use Rattle.rules.specs.Fields.{setRcr}
-use Rattle.sets.specs.Views.{pagesOf}
+use Rattle.rules.specs.Chip.{resetRegisters, emptyPool}
+use Rattle.rules.specs.Fields.{setRcr, inRegisters}
 use Rattle.sets.specs.Lists.{lists-length}
-use Rattle.queues.specs.Slots.{Slots}
 use Rattle.rules.specs.Registers.{Lanes, RCR, newRcr, writeRcr, writeRegister}
 use Rattle.state.specs.declared.Answer.the-variants.{Done}
-use Rattle.state.specs.View.{word, registersIn, counts, poolIn, view}
-use Rattle.state.specs.Promise.{QueuesIn, Makes}
+use Rattle.state.specs.View.{word, registersIn, figures, view}
+use Rattle.state.specs.Promise.{SetsIn, Sound, sets-chip, sets-sound, Makes}
 use Rattle.state.specs.Stores.{store-rcr}
 use Rattle.state.specs.Written.{Written, written-out}
-use Rattle.registers.specs.Power.{empty-queues}
+use Rattle.pool.specs.Queues.{Emptied}
+use Rattle.registers.specs.Power.{resets-chip}
 use Rattle.registers.specs.Promises.{zeroBut, Resets, SoftResets}
 
 -- what the stores leave
@@ -28,11 +27,10 @@ unfolding Written bit flag
 reset-to = written-out 32 (λ w. Resets w (resetWords w)) (λ a b c d e f g h i j k l m n o p q r s t u x y z a2 b2 c2 d2 e2 f2 g2 h2.
     record {
       regs = refl;
-      none = refl;
       kept = record {
         whole = refl;
         fixed = record { bankHigh = refl; reservedHigh = refl; latched = refl; maskLow = refl };
-        blank = record { none4 = refl; none15 = refl; none16 = refl; none18 = refl; none20 = refl; none21 = refl; none23 = refl; none28 = refl; none29 = refl; none30 = refl; none31 = refl };
+        blank = record { none15 = refl; none16 = refl; none18 = refl; none20 = refl; none21 = refl; none23 = refl };
       };
     })
 
@@ -46,22 +44,19 @@ pub zeros-long : (w : List ℕ) → length w ≡ 32 → length (zeroBut w) ≡ 3
 unfolding Written
 zeros-long = written-out 32 (λ w. length (zeroBut w) ≡ 32) (λ a b c d e f g h i j k l m n o p q r s t u x y z a2 b2 c2 d2 e2 f2 g2 h2. refl)
 
+-- there are as many words as before
+pub soft-long : {w s q w′ w″ s″ q″ : List ℕ} → Sound w s q → Emptied w′ w″ s″ q″ → (x : ℕ) → length (set w″ 2 x) ≡ length w
+soft-long o e x = simp length-set (e .sound .kept .whole ∙ sym (o .kept .whole))
+
 -- all is reset but the station address and the memory
-pub soft : (w s q w′ s′ q′ : List ℕ) → Resets w w′ → length s ≡ 24 → map pagesOf s′ ≡ replicate (length s) [] → Slots q′ 0 [] → length q′ ≡ 72 → SoftResets w s q (set w′ 2 0x8000) s′ q′
-soft w s q w′ s′ q′ r sized none e long =
-    let stored = store-rcr 0x8000 w′ (r .kept) in
-    let counted = stored .still ∙ r .none in
+pub soft : {w s q w′ w″ s″ q″ : List ℕ} → SetsIn (figures w) s → Resets w w′ → Emptied w′ w″ s″ q″ → SoftResets w s q (set w″ 2 0x8000) s″ q″
+soft {w} {s} {w″ = w″} {s″ = s″} {q″ = q″} h r e =
+    let stored = store-rcr 0x8000 w″ (e .sound .kept) in
+    let size = lists-length s ∙ h .many in
     record {
-      chip = λ mem.
-          ap (λ (g : Registers). record { regs = g; pool = poolIn (counts (set w′ 2 0x8000)) s′ q′; memory = mem }) (stored .regs ∙ ap (setRcr 0x8000) (r .regs))
-          ∙ ap (λ (c : List ℕ). record { regs = setRcr 0x8000 (resetRegisters (registersIn w .receiving .station)); pool = poolIn c s′ q′; memory = mem }) counted
-          ∙ ap (λ (l : List (List ℕ)). record { regs = setRcr 0x8000 (resetRegisters (registersIn w .receiving .station)); pool = record { pages = l; rx = []; tx = []; completion = [] }; memory = mem })
-          (none ∙ ap (λ (n : ℕ). replicate n []) (sym (lists-length s)));
-      sound = record {
-        kept = stored .kept;
-        queues = subst (λ (c : List ℕ). QueuesIn c q′) (sym counted) (empty-queues q′ long e);
-        sets = sym (lists-length s′) ∙ ap length none ∙ simp length-replicate sized;
-      };
+      chip = λ mem. sets-chip stored s″ q″ mem ∙ ap (inRegisters (setRcr 0x8000)) (resets-chip r e mem)
+          ∙ ap (λ (n : ℕ). record { regs = setRcr 0x8000 (resetRegisters (registersIn w .receiving .station)); pool = emptyPool n; memory = mem }) (sym size);
+      sound = sets-sound stored (e .sound);
     }
 
 -- A write to RCR that leaves bit 15 set.

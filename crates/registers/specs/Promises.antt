@@ -1,14 +1,14 @@
 -- What an acknowledge and a reset promise.
 use mathlib.Core.Path.{_≡_}
 use mathlib.Core.Bool.{not, _&&_}
-use mathlib.Core.List.{List, [], _∷_, _++_}
+use mathlib.Core.List.{List, _++_}
 use Prim.Native.Nat.{ℕ}
 use lib.ListN.{take, drop, replicate}
 use Rattle.rules.specs.Bits.{bit, lowByte}
 use Rattle.rules.specs.Chip.{resetRegisters}
 use Rattle.rules.specs.Interrupts.{acknowledge}
 use Rattle.rules.specs.Registers.{softReset}
-use Rattle.state.specs.View.{registersIn, counts, view, Latches, Kept}
+use Rattle.state.specs.View.{word, registersIn, figures, view, Latches, Kept}
 use Rattle.state.specs.Promise.{QueuesIn, Sound}
 
 -- the latches x after an acknowledge by the low byte of v
@@ -17,20 +17,20 @@ pub record Acknowledged (v x y : ℕ) : Type 0 where
   pub overrun : bit 4 y ≡ bit 4 x && not (bit 4 (lowByte v))
   pub latched : Latches y
 
--- the same of the chip, whatever the page sets
+-- the same of the chip, whatever the page sets; MIR stays
 pub record Acknowledges (v : ℕ) (w q w′ q′ : List ℕ) : Type 0 where
   pub chip : (s mem : List ℕ) → view w′ s q′ mem ≡ acknowledge (lowByte v) (view w s q mem)
+  pub free : word w′ 4 ≡ word w 4
   pub kept : Kept w′
-  pub queues : QueuesIn (counts w′) q′
+  pub queues : QueuesIn (figures w′) q′
 
 -- 0 in the place of every word but the three of the station address
 abbrev pub zeroBut : List ℕ → List ℕ
 zeroBut w = replicate 10 0 ++ (take 3 (drop 10 w) ++ replicate 19 0)
 
--- the words after a reset that keeps the station address
+-- the words after a reset that keeps the station address, but for the figures, which are reset with the pool
 pub record Resets (w w′ : List ℕ) : Type 0 where
   pub regs : registersIn w′ ≡ resetRegisters (registersIn w .receiving .station)
-  pub none : counts w′ ≡ 0 ∷ 0 ∷ 0 ∷ []
   pub kept : Kept w′
 
 -- the state after a soft reset

@@ -1,5 +1,5 @@
 -- The words of MIR, of the heads and of interrupt status, as the rules read them: for the match that answers a read.
-use mathlib.Core.Path.{_≡_, refl, ap, sym, _∙_}
+use mathlib.Core.Path.{_≡_, ap, sym, _∙_}
 use mathlib.Core.List.{List, map}
 use Prim.Native.Nat.{ℕ}
 use lib.ListN.{length}
@@ -11,7 +11,7 @@ use Rattle.rules.specs.Registers.{Register, Lanes, MIR, HEADS, INTERRUPT, headO
 use Rattle.sets.specs.Views.{pagesOf}
 use Rattle.sets.specs.Lists.{lists-length}
 use Rattle.state.specs.declared.Answer.the-variants.{Done}
-use Rattle.state.specs.View.{word, registersIn, counts, queueIn, view}
+use Rattle.state.specs.View.{word, registersIn, figures, queueIn, view}
 use Rattle.state.specs.Promise.{QueuesIn, Sound, Makes}
 
 module _ (p : Lanes) (w s q : List ℕ) (o : Sound w s q) where
@@ -19,17 +19,18 @@ module _ (p : Lanes) (w s q : List ℕ) (o : Sound w s q) where
   reads : (k : Register) (x : ℕ) (mem : List ℕ) → doneWith (taken p x) (view w s q mem) ≡ readRegister k p (view w s q mem) → Makes (readRegister k p (view w s q mem)) (Done (taken p x)) w s q mem
   reads k x mem e = record { chip = ap (λ (f : Effect). f .chip) e; reply = ap (λ (f : Effect). f .reply) e; sound = o }
 
-  pub reads-mir : (r : ℕ) → r ≡ wordOf 24 (length (freeBelow 24 (map pagesOf s))) → (mem : List ℕ) → Makes (readRegister MIR p (view w s q mem)) (Done (taken p r)) w s q mem
+  -- MIR is kept, and read as it stands
+  pub reads-mir : (mem : List ℕ) → Makes (readRegister MIR p (view w s q mem)) (Done (taken p (word w 4))) w s q mem
   unfolding readRegister
-  reads-mir r e mem =
-      let size = lists-length s ∙ o .sets in
-      reads MIR r mem (ap (λ (x : ℕ). doneWith (taken p x) (view w s q mem)) (e ∙ ap (λ (n : ℕ). wordOf n (length (freeBelow n (map pagesOf s)))) (sym size)))
+  reads-mir mem =
+      let size = lists-length s ∙ o .sets .many in
+      reads MIR (word w 4) mem (ap (λ (x : ℕ). doneWith (taken p x) (view w s q mem)) (o .sets .free ∙ ap (λ (n : ℕ). wordOf n (length (freeBelow n (map pagesOf s)))) (sym size)))
 
   pub reads-heads : (r : ℕ) → r ≡ wordOf (headOf (queueIn 2 (word w 9) q)) (headOf (queueIn 0 (word w 6) q)) → (mem : List ℕ) → Makes (readRegister HEADS p (view w s q mem)) (Done (taken p r)) w s q mem
   unfolding readRegister
   reads-heads r e mem = reads HEADS r mem (ap (λ (x : ℕ). doneWith (taken p x) (view w s q mem)) e)
 
-  pub reads-interrupt : (r : ℕ) → ((s′ q′ mem′ : List ℕ) → QueuesIn (counts w) q′ → r ≡ wordOf (status (view w s′ q′ mem′)) (registersIn w .mask))
+  pub reads-interrupt : (r : ℕ) → ((s′ q′ mem′ : List ℕ) → QueuesIn (figures w) q′ → r ≡ wordOf (status (view w s′ q′ mem′)) (registersIn w .mask))
       → (mem : List ℕ) → Makes (readRegister INTERRUPT p (view w s q mem)) (Done (taken p r)) w s q mem
   unfolding readRegister
   reads-interrupt r e mem = reads INTERRUPT r mem (ap (λ (x : ℕ). doneWith (taken p x) (view w s q mem)) (e s q mem (o .queues)))

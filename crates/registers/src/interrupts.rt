@@ -20,8 +20,8 @@ ghost use Rattle.rules.specs.Bits.{bit, flag, wordOf};
 ghost use Rattle.rules.specs.Interrupts as rules;
 ghost use Rattle.rules.specs.Registers.{INTERRUPT, lanesAt, writeRegister};
 ghost use Rattle.state.specs.Meaning.{widthOf, Placed};
-ghost use Rattle.state.specs.View.{registersIn, counts, view, Kept};
-ghost use Rattle.state.specs.Promise.{QueuesIn, Makes};
+ghost use Rattle.state.specs.View.{registersIn, figures, view, Kept};
+ghost use Rattle.state.specs.Promise.{QueuesIn, SetsIn, Makes};
 ghost use Rattle.registers.specs.Promises.{Acknowledges};
 
 // Has a send failed, by EPHSR?
@@ -67,7 +67,7 @@ fn gathered(rx: bool, completion: bool, latches: u16, granted: bool, eph: bool) 
 // Interrupt status.
 pub fn status(words: &[u16]) -> u16
     requires { ⌜ Kept (now words) ⌝ }
-    ensures shown { λ r. ⌜ ((s q mem : List ℕ) → QueuesIn (counts (now (words .entry))) q → r ≡ rules.status (view (now (words .entry)) s q mem)) ⌝ }
+    ensures shown { λ r. ⌜ ((s q mem : List ℕ) → QueuesIn (figures (now (words .entry))) q → r ≡ rules.status (view (now (words .entry)) s q mem)) ⌝ }
     ensures small { λ r. ⌜ r < 64 ⌝ }
 {
     let granted = !bits::is_set(words[PACKET], flags::ALLOCATION_FAILED);
@@ -84,7 +84,7 @@ pub fn status(words: &[u16]) -> u16
 // Is the interrupt line up?
 pub fn line_up(words: &[u16]) -> bool
     requires { ⌜ Kept (now words) ⌝ }
-    ensures { λ b. ⌜ ((s q mem : List ℕ) → QueuesIn (counts (now (words .entry))) q → b ≡ rules.lineUp (view (now (words .entry)) s q mem)) ⌝ }
+    ensures { λ b. ⌜ ((s q mem : List ℕ) → QueuesIn (figures (now (words .entry))) q → b ≡ rules.lineUp (view (now (words .entry)) s q mem)) ⌝ }
 {
     status(words) & (words[INTERRUPT] / 256) != 0
 }
@@ -92,14 +92,14 @@ pub fn line_up(words: &[u16]) -> bool
 // Interrupt status, and the mask above it.
 pub fn interrupt(words: &[u16]) -> u16
     requires { ⌜ Kept (now words) ⌝ }
-    ensures { λ r. ⌜ ((s q mem : List ℕ) → QueuesIn (counts (now (words .entry))) q → r ≡ wordOf (rules.status (view (now (words .entry)) s q mem)) (registersIn (now (words .entry)) .mask)) ⌝ }
+    ensures { λ r. ⌜ ((s q mem : List ℕ) → QueuesIn (figures (now (words .entry))) q → r ≡ wordOf (rules.status (view (now (words .entry)) s q mem)) (registersIn (now (words .entry)) .mask)) ⌝ }
 {
     status(words) + words[INTERRUPT]
 }
 
 // A write of the low byte of v to interrupt status: bit 1 removes the head of completion, 2 and 4 clear their latch.
 fn acknowledge(words: &mut [u16], queues: &mut [u8], v: u16)
-    requires { ⌜ Kept (now words) × QueuesIn (counts (now words)) (now queues) ⌝ }
+    requires { ⌜ Kept (now words) × QueuesIn (figures (now words)) (now queues) ⌝ }
     ensures { λ _. ⌜ Acknowledges v (now (words .entry)) (now (queues .entry)) (now (words .exit)) (now (queues .exit)) ⌝ }
 {
     words[LATCHES] = latches_after(words[LATCHES], v);
@@ -120,8 +120,8 @@ pub fn write_interrupt(
     offset: u8,
     value: u16,
 ) -> Answer
-    requires { ⌜ Kept (now words) × QueuesIn (counts (now words)) (now queues) × Placed width offset ⌝ }
-    ensures done { λ a. ⌜ ((s mem : List ℕ) → length s ≡ 24 → Makes (writeRegister INTERRUPT (lanesAt (widthOf width) offset) value (view (now (words .entry)) s (now (queues .entry)) mem)) a (now (words .exit)) s (now (queues .exit)) mem) ⌝ }
+    requires { ⌜ Kept (now words) × QueuesIn (figures (now words)) (now queues) × Placed width offset ⌝ }
+    ensures done { λ a. ⌜ ((s mem : List ℕ) → SetsIn (figures (now (words .entry))) s → Makes (writeRegister INTERRUPT (lanesAt (widthOf width) offset) value (view (now (words .entry)) s (now (queues .entry)) mem)) a (now (words .exit)) s (now (queues .exit)) mem) ⌝ }
     ensures long { λ a. ⌜ (length (now (words .exit)) ≡ 32) × (length (now (queues .exit)) ≡ 72) ⌝ }
 {
     words[INTERRUPT] = high_only(state::merged(width, offset, value, words[INTERRUPT]));

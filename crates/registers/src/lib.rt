@@ -10,7 +10,6 @@ pub use interrupts::line_up;
 pub use interrupts::status;
 pub use interrupts::write_interrupt;
 pub use reads::heads;
-pub use reads::mir;
 pub use reads::read_ecr;
 pub use resets::reset_words;
 pub use resets::write_rcr;

@@ -4,31 +4,18 @@ use state::COMPLETION_COUNT;
 use state::ECR;
 use state::EPHSR;
 use state::NO_PACKET;
-use state::PAGES;
 use state::RX_COUNT;
 use state::flags;
 ghost use mathlib.Core.Path.{_≡_};
-ghost use mathlib.Core.List.{List, map};
-ghost use Prim.Native.Nat.{ℕ};
 ghost use lib.ListN.{length};
 ghost use Rattle.rules.specs.Bits.{wordOf};
-ghost use Rattle.rules.specs.Lists.{freeBelow};
 ghost use Rattle.rules.specs.Registers as rules;
-ghost use Rattle.sets.specs.Views.{pagesOf};
-ghost use Rattle.state.specs.View.{word, counts, queueIn, Kept};
+ghost use Rattle.state.specs.View.{word, figures, queueIn, Kept};
 ghost use Rattle.state.specs.Promise.{QueuesIn, Does};
-
-// MIR: how many pages there are, and how many are free.
-pub fn mir(sets: &[u32]) -> u16
-    requires { ⌜ length (now sets) ≡ 24 ⌝ }
-    ensures { λ r. ⌜ r ≡ wordOf 24 (length (freeBelow 24 (map pagesOf (now (sets .entry))))) ⌝ }
-{
-    bits::word(PAGES, sets::free_count(sets) as u8)
-}
 
 // The head of completion, 80h when empty.
 fn completion_shown(words: &[u16], queues: &[u8]) -> u8
-    requires { ⌜ Kept (now words) × QueuesIn (counts (now words)) (now queues) ⌝ }
+    requires { ⌜ Kept (now words) × QueuesIn (figures (now words)) (now queues) ⌝ }
     ensures { λ r. ⌜ r ≡ rules.headOf (queueIn 2 (word (now (words .entry)) 9) (now (queues .entry))) ⌝ }
 {
     if words[COMPLETION_COUNT] == 0 {
@@ -40,7 +27,7 @@ fn completion_shown(words: &[u16], queues: &[u8]) -> u8
 
 // The head of RX, 80h when empty.
 fn rx_shown(words: &[u16], queues: &[u8]) -> u8
-    requires { ⌜ Kept (now words) × QueuesIn (counts (now words)) (now queues) ⌝ }
+    requires { ⌜ Kept (now words) × QueuesIn (figures (now words)) (now queues) ⌝ }
     ensures { λ r. ⌜ r ≡ rules.headOf (queueIn 0 (word (now (words .entry)) 6) (now (queues .entry))) ⌝ }
 {
     if words[RX_COUNT] == 0 {
@@ -52,7 +39,7 @@ fn rx_shown(words: &[u16], queues: &[u8]) -> u8
 
 // The heads of completion and of RX.
 pub fn heads(words: &[u16], queues: &[u8]) -> u16
-    requires { ⌜ Kept (now words) × QueuesIn (counts (now words)) (now queues) ⌝ }
+    requires { ⌜ Kept (now words) × QueuesIn (figures (now words)) (now queues) ⌝ }
     ensures { λ r. ⌜ r ≡ wordOf (rules.headOf (queueIn 2 (word (now (words .entry)) 9) (now (queues .entry)))) (rules.headOf (queueIn 0 (word (now (words .entry)) 6) (now (queues .entry)))) ⌝ }
 {
     bits::word(completion_shown(words, queues), rx_shown(words, queues))

@@ -59,9 +59,8 @@ fn soft_reset(words: &mut [u16], sets: &mut [u32], queues: &mut [u8])
     ensures { λ _. ⌜ SoftResets (now (words .entry)) (now (sets .entry)) (now (queues .entry)) (now (words .exit)) (now (sets .exit)) (now (queues .exit)) ⌝ }
 {
     reset_words(words);
+    pool::reset(words, sets, queues);
     words[RCR] = 1 << flags::SOFT_RST;
-    sets::cleared(sets);
-    queues::empty(queues);
 }
 
 // RCR. A write that leaves bit 15 set resets.

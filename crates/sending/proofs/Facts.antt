@@ -17,10 +17,11 @@ use Rattle.rules.specs.Send.{Send, outcomeBits, addressBits, nibbles, anyAt15, 
 use Rattle.bits.specs.Laws.{bit-set, bit-set-other}
 use Rattle.state.specs.declared.Answer.{Answer}
 use Rattle.state.specs.Meaning.{replyOf}
-use Rattle.state.specs.View.{word, registersIn, counts, queueIn, view, Latches, Kept}
+use Rattle.state.specs.View.{word, registersIn, figures, queueIn, view, Latches, Kept}
 use Rattle.state.specs.Promise.{QueuesIn, Sound, Sets, sets-both, sets-as, sets-chip}
 use Rattle.state.specs.Stores.{store-tcr, store-ephsr, store-ecr, store-latches}
 use Rattle.pool.specs.Queues.{Rejoins, rejoins-chip}
+use Rattle.pool.specs.Pages.{Repages, repages-chip, repages-sound}
 use Rattle.sending.specs.Sends.{Sends, sentBy, headGone, Sent, Retires, Completes}
 
 -- A latch stays where nothing sets it.
@@ -63,7 +64,7 @@ last-one (x ∷ y ∷ ys) h = ne-eqb (length (x ∷ y ∷ ys)) 1 (λ e. omega (a
 
 -- The registers are set, and then the head leaves TX.
 module _ (isGood : Bool) (s : Send) (bits : ℕ) {w q w₁ w′ q′ : List ℕ} where
-  pub leaves : QueuesIn (counts w) q → 0 < word w 8 → Sets (sentBy isGood s bits (eqb (word w 8) 1)) w w₁
+  pub leaves : QueuesIn (figures w) q → 0 < word w 8 → Sets (sentBy isGood s bits (eqb (word w 8) 1)) w w₁
       → Rejoins (λ p. setTx (drop 1 (p .tx)) p) w₁ q w′ q′ → Sent isGood s bits w q w′ q′
   leaves o h a b =
       let n = o .tx .many in
@@ -71,6 +72,7 @@ module _ (isGood : Bool) (s : Send) (bits : ℕ) {w q w₁ w′ q′ : List ℕ}
         chip = λ sets mem. rejoins-chip b sets mem ∙ ap (inPool (λ p. setTx (drop 1 (p .tx)) p)) (sets-chip a sets q mem)
             ∙ ap (λ (e : Bool). let c = view w sets q mem in inPool (setTx (drop 1 (c .pool .tx))) (inRegisters (sentBy isGood s bits e) c))
             (ap (λ (k : ℕ). eqb k 1) n ∙ last-one (queueIn 1 (word w 8) q) (omega (arith, n)));
+        free = b .free ∙ ap (λ (c : List ℕ). word c 3) (a .still);
         kept = b .kept;
         queues = b .queues;
       }
@@ -78,7 +80,7 @@ module _ (isGood : Bool) (s : Send) (bits : ℕ) {w q w₁ w′ q′ : List ℕ}
 -- What is known of the state after it.
 module _ {isGood : Bool} {s : Send} {bits : ℕ} {w q w′ q′ : List ℕ} (t : Sent isGood s bits w q w′ q′) where
   -- completion has as many entries as before
-  pub same-completion : QueuesIn (counts w) q → word w′ 9 ≡ word w 9
+  pub same-completion : QueuesIn (figures w) q → word w′ 9 ≡ word w 9
   same-completion o = t .queues .completion .many ∙ ap (λ (c : Chip). length (c .pool .completion)) (t .chip [] []) ∙ sym (o .completion .many)
 
   -- the chip, once the status word is in memory
@@ -101,6 +103,10 @@ module _ {isGood : Bool} {s : Send} {bits : ℕ} {w q w′ q′ : List ℕ} (t :
     chip = r .chip mem″ ∙ ap₂ (λ (i : ℕ) (d : Chip). retire released i d) h (sent-view sets pages mem (getBytes 6 4 pages mem) e m);
     sound = r .sound;
   }
+
+-- The packet's pages are given back, and the rest stays.
+pub gives-back : {released : Bool} {k : ℕ} {w s q w′ s′ : List ℕ} → released ≡ true → QueuesIn (figures w) q → Repages (λ ls. set ls k []) w s w′ s′ → Retires released k w s q w′ s′ q
+gives-back {q = q} e o a = rw e (record { chip = repages-chip a q; sound = repages-sound a q o })
 
 -- A refusal: nothing changes.
 pub refuses : {t : Turn} {a : Answer} {w s q mem out : List ℕ} (n : ℕ) → Sound w s q → t ≡ refused n (view w s q mem) out → replyOf a ≡ refusal n → Sends t a w s q mem out

@@ -13,7 +13,7 @@ use Rattle.rules.specs.Packet.{getBytes}
 use Rattle.rules.specs.Send.{Send, outcomeBits, anyAt15, tally, newEcr, newEphsr, sentRegisters, retire, statusWritten, ifSendable}
 use Rattle.state.specs.declared.Answer.{Answer}
 use Rattle.state.specs.Meaning.{replyOf}
-use Rattle.state.specs.View.{counts, view, Kept}
+use Rattle.state.specs.View.{word, figures, view, Kept}
 use Rattle.state.specs.Promise.{QueuesIn, Sound}
 
 -- the answer, with state, memory and output after it, is what the turn says
@@ -44,11 +44,12 @@ headGone isGood s bits c =
     let rest = drop 1 (c .pool .tx) in
     inPool (setTx rest) (inRegisters (sentBy isGood s bits (not (some? rest))) c)
 
--- words w and queues q become w′ and q′, beside any page sets and memory
+-- words w and queues q become w′ and q′, beside any page sets and memory; MIR stays
 pub record Sent (isGood : Bool) (s : Send) (bits : ℕ) (w q w′ q′ : List ℕ) : Type 0 where
   pub chip : (sets mem : List ℕ) → view w′ sets q′ mem ≡ headGone isGood s bits (view w sets q mem)
+  pub free : word w′ 4 ≡ word w 4
   pub kept : Kept w′
-  pub queues : QueuesIn (counts w′) q′
+  pub queues : QueuesIn (figures w′) q′
 
 -- packet k is released, or joins completion
 pub record Retires (released : Bool) (k : ℕ) (w s q w′ s′ q′ : List ℕ) : Type 0 where

@@ -5,6 +5,7 @@ use crate::nibbles::new_ecr;
 use crate::nibbles::tallied;
 use crate::status::new_ephsr;
 use crate::status::new_tcr;
+use sets::Packet;
 use state::ECR;
 use state::EPHSR;
 use state::LATCHES;
@@ -15,8 +16,9 @@ ghost use mathlib.Core.Path.{_≡_};
 ghost use mathlib.Core.Bool.{_||_};
 ghost use Prim.Native.Nat.{_≤_, _<_};
 ghost use lib.Dec.{eqb};
+ghost use lib.ListN.{getD};
 ghost use Rattle.rules.specs.Bits.{bit};
-ghost use Rattle.state.specs.View.{word, counts, Latches, Kept};
+ghost use Rattle.state.specs.View.{word, figures, queueIn, Latches, Kept};
 ghost use Rattle.state.specs.Promise.{QueuesIn, Sets};
 ghost use Rattle.sending.specs.Numbers.{sendOf};
 ghost use Rattle.sending.specs.Sends.{sentBy, Sent};
@@ -49,11 +51,12 @@ fn set_registers(words: &mut [u16], s: Send, good: bool, address: u16)
     words[LATCHES] = latches;
 }
 
-// The registers become those after the send, and the head leaves TX.
-pub fn after_send(words: &mut [u16], queues: &mut [u8], s: Send, good: bool, address: u16)
-    requires { ⌜ Kept (now words) × QueuesIn (counts (now words)) (now queues) × (0 < word (now words) 8) × (s .outcome ≤ 5) × (address ≤ 64) ⌝ }
-    ensures { λ _. ⌜ Sent good (sendOf s) address (now (words .entry)) (now (queues .entry)) (now (words .exit)) (now (queues .exit)) ⌝ }
+// The registers become those after the send, and the head leaves TX and is returned.
+pub fn after_send(words: &mut [u16], queues: &mut [u8], s: Send, good: bool, address: u16) -> Packet
+    requires { ⌜ Kept (now words) × QueuesIn (figures (now words)) (now queues) × (0 < word (now words) 8) × (s .outcome ≤ 5) × (address ≤ 64) ⌝ }
+    ensures head { λ r. ⌜ r .0 ≡ getD (queueIn 1 (word (now (words .entry)) 8) (now (queues .entry))) 0 0 ⌝ }
+    ensures sent { λ _. ⌜ Sent good (sendOf s) address (now (words .entry)) (now (queues .entry)) (now (words .exit)) (now (queues .exit)) ⌝ }
 {
     set_registers(words, s, good, address);
-    pool::leave_tx(words, queues);
+    pool::leave_tx(words, queues)
 }

@@ -4,9 +4,12 @@ use state::PACKETS;
 use state::flags;
 ghost use mathlib.Core.Path.{_≡_};
 ghost use mathlib.Core.Bool.{not, _&&_, false};
+ghost use mathlib.Core.List.{map};
 ghost use Prim.Native.Nat.{_<_};
 ghost use lib.Dec.{leb};
 ghost use Rattle.rules.specs.Bits.{bit};
+ghost use Rattle.rules.specs.WellFormed.{GoodPages};
+ghost use Rattle.sets.specs.Views.{pagesOf};
 ghost use Rattle.state.specs.View.{word};
 ghost use Rattle.state.specs.Promise.{Sound};
 ghost use Rattle.sending.specs.Sends.{Retires};
@@ -42,11 +45,11 @@ pub fn retire(
     packet: Packet,
     released: bool,
 )
-    requires { ⌜ (packet .0 < 24) × Sound (now words) (now sets) (now queues) × (released ≡ false → word (now words) 9 < 24) ⌝ }
+    requires { ⌜ (packet .0 < 24) × Sound (now words) (now sets) (now queues) × GoodPages 24 (map pagesOf (now sets)) × (released ≡ false → word (now words) 9 < 24) ⌝ }
     ensures { λ _. ⌜ Retires released (packet .0) (now (words .entry)) (now (sets .entry)) (now (queues .entry)) (now (words .exit)) (now (sets .exit)) (now (queues .exit)) ⌝ }
 {
     if released {
-        sets::released(sets, packet);
+        pool::give_back(words, sets, packet);
         return;
     }
     pool::join_completion(words, queues, packet);

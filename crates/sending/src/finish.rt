@@ -43,9 +43,8 @@ fn complete(
     requires { ⌜ Ready (now words) (now sets) (now queues) × (0 < word (now words) 8) × Room 10 pages (now memory) × (s .outcome ≤ 5) × (released ≡ false → word (now words) 9 < 24) ⌝ }
     ensures { λ _. ⌜ Completes released good (sendOf s) (pagesOf pages) (view (now (words .entry)) (now (sets .entry)) (now (queues .entry)) (now (memory .entry))) (now (words .exit)) (now (sets .exit)) (now (queues .exit)) (now (memory .exit)) ⌝ }
 {
-    let head = pool::tx_head(queues);
     let address = address_bits(memory, pages);
-    after_send(words, queues, s, good, address);
+    let head = after_send(words, queues, s, good, address);
     packet::write_status(memory, pages, words[EPHSR]);
     retire(words, sets, queues, head, released);
 }

@@ -2,15 +2,15 @@
 mod map; // map.rt: for each packet number its pages
 mod set; // set.rt: one packet's pages
 
+pub use map::Checked;
+pub use map::audit;
 pub use map::cleared;
-pub use map::free_count;
 pub use map::free_set;
 pub use map::granted;
 pub use map::lowest_unallocated;
 pub use map::owned_set;
 pub use map::released;
 pub use map::set_of;
-pub use map::sets_good;
 pub use set::has_pages;
 pub use set::lowest;
 pub use set::lowest_page;

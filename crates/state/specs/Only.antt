@@ -1,4 +1,4 @@
--- A state is known from the chip that it stands for: its words from the registers and the queues' lengths, its sets from their pages, its queues' bytes
+-- A state is known from the chip that it stands for: its words from the registers and a count of the pool, its sets from their pages, its queues' bytes
 -- from their entries. So there is only one result of a public entry: two that meet its promise are equal.
 use mathlib.Core.Path.{_≡_, refl, ap, ap₂, sym, _∙_}
 use mathlib.Core.HLevel.{Discrete}
@@ -9,12 +9,14 @@ use native.Mathlib.Decide.{ℕ-discrete}
 use lib.ListN.{length, getD, take, drop, replicate, take-append-drop, length-drop}
 use lib.Seq.{ext-getD, take-all, drop-drop}
 use Rattle.rules.specs.Bits.{flag, wordOf, wordAt}
+use Rattle.rules.specs.Lists.{freeBelow}
 use Rattle.rules.specs.Chip.{Chip}
 use Rattle.rules.specs.Chip as rules
 use Rattle.rules.specs.Answers.{Reply, Turn}
 use Rattle.rules.specs.Step.{Input, step}
 use Rattle.sets.specs.Views.{pagesOf}
 use Rattle.sets.specs.Pages.{pages-one}
+use Rattle.sets.specs.Members.{setOf}
 use Rattle.sets.specs.Lists.{list-at, lists-length}
 use Rattle.queues.specs.Slots.{Slots}
 use Rattle.queues.specs.Parts.{slots, part-long}
@@ -25,24 +27,25 @@ use Rattle.state.specs.declared.Pages.{Pages}
 use Rattle.state.specs.declared.Queues.{Queues}
 use Rattle.state.specs.declared.Returned.{Returned}
 use Rattle.state.specs.Meaning.{replyOf}
-use Rattle.state.specs.View.{word, registersIn, counts, queueIn, view, FixedIn, BlankIn, Kept}
+use Rattle.state.specs.View.{word, registersIn, figures, queueIn, poolIn, view, FixedIn, BlankIn, Kept}
 use Rattle.state.specs.Written.{Written, written-out}
 use Rattle.state.specs.Promise.{QueuesIn, Sound}
+use Rattle.state.specs.Counted.{FullCount, full-count}
 use Rattle.state.specs.Entry.{InOrderBy, Right, Answers}
 
--- The words of registers, beside how many entries RX, TX and completion have.
-abbrev pub wordsOf : rules.Registers → ℕ → ℕ → ℕ → List ℕ
-wordsOf r rx tx completion =
+-- The words of registers beside a pool, whose figures are counted.
+abbrev pub wordsOf : rules.Registers → rules.Pool → List ℕ
+wordsOf r p =
     r .sending .tcr
     ∷ r .sending .ephsr
     ∷ r .receiving .rcr
     ∷ r .sending .ecr
-    ∷ 0
+    ∷ wordOf 24 (length (freeBelow 24 (p .pages)))
     ∷ wordOf (r .receiving .reserved) 0x33
-    ∷ rx
+    ∷ length (p .rx)
     ∷ wordOf (r .numbers .bank) 0x33
-    ∷ tx
-    ∷ completion
+    ∷ length (p .tx)
+    ∷ length (p .completion)
     ∷ wordAt 0 (r .receiving .station)
     ∷ wordAt 2 (r .receiving .station)
     ∷ wordAt 4 (r .receiving .station)
@@ -61,10 +64,10 @@ wordsOf r rx tx completion =
     ∷ wordAt 2 (r .receiving .table)
     ∷ wordAt 4 (r .receiving .table)
     ∷ wordAt 6 (r .receiving .table)
-    ∷ 0
-    ∷ 0
-    ∷ 0
-    ∷ 0
+    ∷ (setOf (p .rx) % 65536)
+    ∷ (setOf (p .rx) / 65536)
+    ∷ (setOf (p .tx) % 65536)
+    ∷ (setOf (p .tx) / 65536)
     ∷ []
 
 halves : (x : ℕ) → x ≡ wordOf (x % 256) (x / 256)
@@ -79,16 +82,16 @@ fixed-low : (x : ℕ) → x % 256 ≡ 0 → x ≡ wordOf 0 (x / 256)
 unfolding wordOf
 fixed-low x e = omega arith
 
-abbrev Known : List ℕ → Type 0
-Known w = FixedIn w → BlankIn w → w ≡ wordsOf (registersIn w) (word w 6) (word w 8) (word w 9)
+abbrev Known : rules.Pool → List ℕ → Type 0
+Known pool w = FixedIn w → BlankIn w → FullCount (figures w) pool → w ≡ wordsOf (registersIn w) pool
 
--- kept words are those of their registers
-pub words-known : (w : List ℕ) → Kept w → w ≡ wordsOf (registersIn w) (word w 6) (word w 8) (word w 9)
+-- kept words are those of their registers and of a pool that their figures count
+pub words-known : (pool : rules.Pool) (w : List ℕ) → Kept w → FullCount (figures w) pool → w ≡ wordsOf (registersIn w) pool
 unfolding Written wordAt
-words-known w k = written-out 32 Known (λ a b c d e f g h i j k l m n o p q r s t u v x y z a2 b2 c2 d2 e2 f2 g2 fix blank.
-    λ ι. a ∷ b ∷ c ∷ d ∷ blank .none4 ι ∷ fixed-high f (fix .reservedHigh) ι ∷ g ∷ fixed-high h (omega (arith, fix .bankHigh)) ι ∷ i ∷ j
+words-known pool w k = written-out 32 (Known pool) (λ a b c d e f g h i j k l m n o p q r s t u v x y z a2 b2 c2 d2 e2 f2 g2 fix blank full.
+    λ ι. a ∷ b ∷ c ∷ d ∷ full .mir ι ∷ fixed-high f (fix .reservedHigh) ι ∷ full .rx ι ∷ fixed-high h (omega (arith, fix .bankHigh)) ι ∷ full .tx ι ∷ full .completion ι
     ∷ halves k ι ∷ halves l ι ∷ halves m ι ∷ fix .latched ι ∷ o ∷ blank .none15 ι ∷ blank .none16 ι ∷ halves r ι ∷ blank .none18 ι ∷ t ∷ blank .none20 ι ∷ blank .none21 ι
-    ∷ fixed-low x (fix .maskLow) ι ∷ blank .none23 ι ∷ halves z ι ∷ halves a2 ι ∷ halves b2 ι ∷ halves c2 ι ∷ blank .none28 ι ∷ blank .none29 ι ∷ blank .none30 ι ∷ blank .none31 ι ∷ []) w (k .whole) (k .fixed) (k .blank)
+    ∷ fixed-low x (fix .maskLow) ι ∷ blank .none23 ι ∷ halves z ι ∷ halves a2 ι ∷ halves b2 ι ∷ halves c2 ι ∷ full .inRx .lower ι ∷ full .inRx .upper ι ∷ full .inTx .lower ι ∷ full .inTx .upper ι ∷ []) w (k .whole) (k .fixed) (k .blank)
 
 -- The bytes of a queue's entries, with 0 behind them, and of three queues.
 abbrev pub padded : List ℕ → List ℕ
@@ -127,16 +130,15 @@ module _ {w s q mem w′ s′ q′ mem′ : List ℕ} (a : Sound w s q) (b : Sou
 
   same-words : w ≡ w′
   same-words =
-      let rx = a .queues .rx .many ∙ of (λ c. length (c .pool .rx)) ∙ sym (b .queues .rx .many) in
-      let tx = a .queues .tx .many ∙ of (λ c. length (c .pool .tx)) ∙ sym (b .queues .tx .many) in
-      let completion = a .queues .completion .many ∙ of (λ c. length (c .pool .completion)) ∙ sym (b .queues .completion .many) in
-      words-known w (a .kept) ∙ (λ i. wordsOf (of (λ c. c .regs) i) (rx i) (tx i) (completion i)) ∙ sym (words-known w′ (b .kept))
+      words-known (poolIn (figures w) s q) w (a .kept) (full-count a)
+      ∙ of (λ c. wordsOf (c .regs) (c .pool))
+      ∙ sym (words-known (poolIn (figures w′) s′ q′) w′ (b .kept) (full-count b))
 
   same-queues : q ≡ q′
   same-queues =
-      queues-known (counts w) q (a .queues)
+      queues-known (figures w) q (a .queues)
       ∙ of (λ c. padded (c .pool .rx) ++ (padded (c .pool .tx) ++ padded (c .pool .completion)))
-      ∙ sym (queues-known (counts w′) q′ (b .queues))
+      ∙ sym (queues-known (figures w′) q′ (b .queues))
 
   pub one-state : (w ≡ w′) × (s ≡ s′) × (q ≡ q′) × (mem ≡ mem′)
   one-state = (same-words, sets-one s s′ f g (of (λ c. c .pool .pages)), same-queues, of (λ c. c .memory))

@@ -1,36 +1,52 @@
 -- What a step over the lent state promises.
 use mathlib.Core.Path.{_≡_, refl, ap, sym, subst, _∙_}
-use mathlib.Core.List.{List, []}
-use Prim.Native.Nat.{ℕ}
+use mathlib.Core.List.{List, map}
+use Prim.Native.Nat.{ℕ, _/_, _%_}
 use lib.ListN.{length}
+use Rattle.rules.specs.Bits.{wordOf}
+use Rattle.rules.specs.Lists.{freeBelow}
 use Rattle.rules.specs.Chip.{Registers, Chip}
 use Rattle.rules.specs.Answers.{Effect, did}
 use Rattle.rules.specs.Fields.{inRegisters}
 use Rattle.rules.specs.WellFormed.{Formed}
+use Rattle.sets.specs.Views.{pagesOf}
+use Rattle.sets.specs.Members.{setOf}
 use Rattle.queues.specs.Slots.{Slots}
 use Rattle.queues.specs.Parts.{slots}
 use Rattle.state.specs.declared.Answer.{Answer}
 use Rattle.state.specs.declared.Answer.the-variants.{Done}
 use Rattle.state.specs.Meaning.{replyOf}
-use Rattle.state.specs.View.{word, registersIn, counts, queueIn, poolIn, view, Kept}
+use Rattle.state.specs.View.{word, registersIn, figures, queueIn, poolIn, view, Kept}
 
--- 72 bytes of queues: each has its entries, and 0 behind them
+-- the lower 16 bits of a number, and the others
+pub record Halves (low high x : ℕ) : Type 0 where
+  pub lower : low ≡ x % 65536
+  pub upper : high ≡ x / 65536
+
+-- 72 bytes of queues: each has its entries, and 0 behind them; and the bits "in RX" and "in TX" are those of their entries
 pub record QueuesIn (c q : List ℕ) : Type 0 where
   pub long : length q ≡ 72
   pub rx : Slots (slots 0 q) (word c 0) (queueIn 0 (word c 0) q)
   pub tx : Slots (slots 1 q) (word c 1) (queueIn 1 (word c 1) q)
   pub completion : Slots (slots 2 q) (word c 2) (queueIn 2 (word c 2) q)
+  pub inRx : Halves (word c 4) (word c 5) (setOf (queueIn 0 (word c 0) q))
+  pub inTx : Halves (word c 6) (word c 7) (setOf (queueIn 1 (word c 1) q))
+
+-- 24 page sets, and MIR has 24 and, above it, how many pages are in none of them
+pub record SetsIn (c s : List ℕ) : Type 0 where
+  pub many : length s ≡ 24
+  pub free : word c 3 ≡ wordOf 24 (length (freeBelow 24 (map pagesOf s)))
 
 -- the state is laid out as it must be: one state for each chip
 pub record Sound (w s q : List ℕ) : Type 0 where
   pub kept : Kept w
-  pub queues : QueuesIn (counts w) q
-  pub sets : length s ≡ 24
+  pub queues : QueuesIn (figures w) q
+  pub sets : SetsIn (figures w) s
 
 -- and it stands for a well-formed chip, whatever its memory
 pub record Ready (w s q : List ℕ) : Type 0 where
   pub sound : Sound w s q
-  pub well : Formed 24 (registersIn w) (poolIn (counts w) s q)
+  pub well : Formed 24 (registersIn w) (poolIn (figures w) s q)
 
 -- the answer a, and the state after it, are the effect e of the rules
 pub record Makes (e : Effect) (a : Answer) (w s q mem : List ℕ) : Type 0 where
@@ -41,7 +57,7 @@ pub record Makes (e : Effect) (a : Answer) (w s q mem : List ℕ) : Type 0 where
 -- A change of the registers alone: from the words w to w′.
 pub record Sets (f : Registers → Registers) (w w′ : List ℕ) : Type 0 where
   pub regs : registersIn w′ ≡ f (registersIn w)
-  pub still : counts w′ ≡ counts w
+  pub still : figures w′ ≡ figures w
   pub kept : Kept w′
 
 pub sets-nothing : (w : List ℕ) → Kept w → Sets (λ r. r) w w
@@ -58,16 +74,16 @@ sets-as a e = record { regs = a .regs ∙ e; still = a .still; kept = a .kept }
 -- the chip after it, beside any page sets, queues and memory; and the state is sound
 pub sets-chip : {f : Registers → Registers} {w w′ : List ℕ} → Sets f w w′ → (s q mem : List ℕ) → view w′ s q mem ≡ inRegisters f (view w s q mem)
 sets-chip {f} {w} {w′} a s q mem =
-    ap (λ (r : Registers). record { regs = r; pool = poolIn (counts w′) s q; memory = mem }) (a .regs)
+    ap (λ (r : Registers). record { regs = r; pool = poolIn (figures w′) s q; memory = mem }) (a .regs)
     ∙ ap (λ (c : List ℕ). record { regs = f (registersIn w); pool = poolIn c s q; memory = mem }) (a .still)
 
 pub sets-sound : {f : Registers → Registers} {w w′ s q : List ℕ} → Sets f w w′ → Sound w s q → Sound w′ s q
-sets-sound {f} {w} {w′} {s} {q} a o = record { kept = a .kept; queues = subst (λ (c : List ℕ). QueuesIn c q) (sym (a .still)) (o .queues); sets = o .sets }
+sets-sound {f} {w} {w′} {s} {q} a o = record { kept = a .kept; queues = subst (λ (c : List ℕ). QueuesIn c q) (sym (a .still)) (o .queues); sets = subst (λ (c : List ℕ). SetsIn c s) (sym (a .still)) (o .sets) }
 
 -- A step that looks at the registers alone, and changes no more.
 pub record Does (f : Chip → Effect) (w : List ℕ) (a : Answer) (w′ : List ℕ) : Type 0 where
   pub step : (s q mem : List ℕ) → record { reply = replyOf a; chip = view w′ s q mem } ≡ f (view w s q mem)
-  pub still : counts w′ ≡ counts w
+  pub still : figures w′ ≡ figures w
   pub kept : Kept w′
 
 pub does-sets : {f : Registers → Registers} {w w′ : List ℕ} → Sets f w w′ → Does (λ c. did (inRegisters f c)) w (Done 0) w′
@@ -77,5 +93,5 @@ pub does-makes : {f : Chip → Effect} {w w′ s q : List ℕ} {a : Answer} → 
 does-makes {f} {w} {w′} {s} {q} d o mem = record {
   chip = ap (λ (e : Effect). e .chip) (d .step s q mem);
   reply = ap (λ (e : Effect). e .reply) (d .step s q mem);
-  sound = record { kept = d .kept; queues = subst (λ (c : List ℕ). QueuesIn c q) (sym (d .still)) (o .queues); sets = o .sets };
+  sound = record { kept = d .kept; queues = subst (λ (c : List ℕ). QueuesIn c q) (sym (d .still)) (o .queues); sets = subst (λ (c : List ℕ). SetsIn c s) (sym (d .still)) (o .sets) };
 }

@@ -12,20 +12,25 @@ use lib.Dec.{eqb}
 use lib.ListN.{length, take, drop, getD, replicate, length-drop, length-replicate, getD-replicate, take-append-drop}
 use lib.Pow.{pow-mono, shr-shr}
 use lib.Seq.{length-take-le, getD-take, getD-drop, getD-append-add, ext-getD}
-use Rattle.rules.specs.Bits.{bit, flag}
-use Rattle.rules.specs.Lists.{member, some?}
+use Rattle.rules.specs.Bits.{bit, flag, wordOf}
+use Rattle.rules.specs.Lists.{member, some?, freeBelow}
 use Rattle.rules.specs.WellFormed.{Distinct, GoodPages, GoodQueues, GoodNumbers}
 use Rattle.lists.specs.Facts.{if-not, member-at}
-use Rattle.lists.specs.Each.{Each, each-member}
+use Rattle.lists.specs.Each.{Each, each-member, member-each}
+use Rattle.wellformed.specs.Count.{total, free-and-total}
+use Rattle.wellformed.specs.Pool.{has-small}
 use Rattle.sets.specs.Views.{pagesOf}
-use Rattle.sets.specs.Bits.{bit-zero, bits-bound}
+use Rattle.sets.specs.Bits.{bits-bound, bits-same}
+use Rattle.sets.specs.Pages.{pages-count}
 use Rattle.sets.specs.Lists.{lists-length, none-at, some-at}
 use Rattle.sets.specs.Good.{as-lists, as-sets}
+use Rattle.sets.specs.Members.{setOf, set-members, set-small}
 use Rattle.queues.specs.Slots.{Slots}
 use Rattle.queues.specs.Parts.{slots, part-long}
 use Rattle.state.specs.View.{word, registersIn, queueIn, Latches, Kept}
-use Rattle.state.specs.Promise.{QueuesIn, Ready}
-use Rattle.state.specs.WellFormed.{SetsFormed, QueuesFormed, NumbersFormed, FixedBytes, RecordFormed, slotAt}
+use Rattle.state.specs.Promise.{Halves, Ready}
+use Rattle.state.specs.Counted.{whole, halves}
+use Rattle.state.specs.WellFormed.{SetsFormed, QueuesFormed, NumbersFormed, FixedBytes, FiguresFormed, RecordFormed, slotAt, pagesIn}
 
 -- The latches: no bit but 2 and 4.
 power-above : (n : ℕ) → n < 2 ^ n
@@ -153,10 +158,17 @@ module _ (k c : ℕ) (q : List ℕ) (long : length q ≡ 72) (small : k < 3) (fi
 slots-fit : (k c : ℕ) (q : List ℕ) → length q ≡ 72 → k < 3 → Slots (slots k q) c (queueIn k c q) → c ≤ 24
 slots-fit k c q long small s = omega (arith, s .fits, part-long k q long small)
 
+-- Queues in 72 bytes, with so many entries.
+record SlotsIn (a b c : ℕ) (q : List ℕ) : Type 0 where
+  long : length q ≡ 72
+  rx : Slots (slots 0 q) a (queueIn 0 a q)
+  tx : Slots (slots 1 q) b (queueIn 1 b q)
+  completion : Slots (slots 2 q) c (queueIn 2 c q)
+
 module _ (s : List ℕ) (fits : (i : ℕ) → getD s i 0 < 2 ^ 32) where
   pub sets-restated : SetsFormed s ↔ ((length s ≡ 24) × GoodPages 24 (map pagesOf s))
   sets-restated = (
-    λ f. (f .count, as-lists 24 s fits (record { within = f .within; atMost = f .atMost; fresh = λ i p b. bit-zero p; once = f .once })),
+    λ f. (f .count, as-lists 24 s fits (record { within = f .within; atMost = f .atMost; once = f .once })),
     λ g. let h = as-sets 24 s fits (g .1) in record { count = g .0; once = h .once; within = h .within; atMost = h .atMost },
   )
 
@@ -173,7 +185,7 @@ module _ (s : List ℕ) (fits : (i : ℕ) → getD s i 0 < 2 ^ 32) where
 
   module _ (rx tx completion : ℕ) (q : List ℕ) where
     abbrev Queues : Type 0
-    Queues = QueuesIn (rx ∷ tx ∷ completion ∷ []) q × GoodQueues 24 (map pagesOf s) (queueIn 0 rx q) (queueIn 1 tx q) (queueIn 2 completion q)
+    Queues = SlotsIn rx tx completion q × GoodQueues 24 (map pagesOf s) (queueIn 0 rx q) (queueIn 1 tx q) (queueIn 2 completion q)
 
     queues-as-lists : QueuesFormed rx tx completion s q → Queues
     queues-as-lists f = (
@@ -233,6 +245,52 @@ module _ (s : List ℕ) (fits : (i : ℕ) → getD s i 0 < 2 ^ 32) where
         inTx : (i : ℕ) → i < tx → member (slotAt 24 q i) (queueIn 1 tx q) ≡ true
         inTx = there 1 tx q (o .long) (omega arith) b
 
+-- The figures. A sum of 2 ^ k is the number whose bits are the entries, where each is a packet that stands there once.
+module _ (low high : ℕ) (l : List ℕ) (distinct : Distinct l) where
+  bits-as-set : low < 65536 → high < 65536 → ((k : ℕ) → member k l ≡ true → k < 24) → ((k : ℕ) → bit k (low + high * 65536) ≡ member k l) → Halves low high (setOf l)
+  bits-as-set a b small h =
+      let below = set-small 24 l distinct (member-each (λ k. k < 24) l small) in
+      let same = bits-same 32 (low + high * 65536) (setOf l) (omega (arith, a, b)) (omega (arith, below)) (λ k. h k ∙ sym (set-members l distinct k)) in
+      halves low high (setOf l) a same
+
+  set-as-bits : Halves low high (setOf l) → (k : ℕ) → bit k (low + high * 65536) ≡ member k l
+  set-as-bits h k = ap (bit k) (whole h) ∙ set-members l distinct k
+
+-- Pages counted set by set are those that the packets have.
+pages-counted : (s : List ℕ) → ((i : ℕ) → getD s i 0 < 2 ^ 32) → pagesIn s ≡ total (map pagesOf s)
+unfolding total
+pages-counted [] fits = refl
+pages-counted (x ∷ xs) fits = omega (arith, pages-count x (fits 0), pages-counted xs (λ i. fits (suc i)))
+
+-- An allocated packet has a set, so its number is below 24.
+small-entries : (s : List ℕ) (l : List ℕ) → length s ≡ 24 → ((k : ℕ) → member k l ≡ true → some? (getD (map pagesOf s) k []) ≡ true) → (k : ℕ) → member k l ≡ true → k < 24
+small-entries s l long h k m = omega (arith, has-small (map pagesOf s) k (h k m), lists-length s, long)
+
+module _ (w s q : List ℕ) (typed : (i : ℕ) → word w i < 65536) (fits : (i : ℕ) → getD s i 0 < 2 ^ 32) (long : length s ≡ 24) (pages : GoodPages 24 (map pagesOf s))
+    (queues : GoodQueues 24 (map pagesOf s) (queueIn 0 (word w 6) q) (queueIn 1 (word w 8) q) (queueIn 2 (word w 9) q)) where
+  free-counted : length (freeBelow 24 (map pagesOf s)) + pagesIn s ≡ 24
+  free-counted = omega (arith, free-and-total 24 (map pagesOf s) pages, pages-counted s fits)
+
+  -- the free count, and both queues' bits
+  figures-as-count : FiguresFormed w s q
+      → (word w 4 ≡ wordOf 24 (length (freeBelow 24 (map pagesOf s)))) × Halves (word w 28) (word w 29) (setOf (queueIn 0 (word w 6) q)) × Halves (word w 30) (word w 31) (setOf (queueIn 1 (word w 8) q))
+  unfolding wordOf
+  figures-as-count f = (
+    omega (arith, f .size, f .free, free-counted),
+    bits-as-set _ _ _ (queues .rxDistinct) (typed 28) (typed 29) (small-entries s _ long (queues .rxAllocated)) (f .inRx),
+    bits-as-set _ _ _ (queues .txDistinct) (typed 30) (typed 31) (small-entries s _ long (queues .txAllocated)) (f .inTx),
+  )
+
+  count-as-figures : word w 4 ≡ wordOf 24 (length (freeBelow 24 (map pagesOf s))) → Halves (word w 28) (word w 29) (setOf (queueIn 0 (word w 6) q)) → Halves (word w 30) (word w 31) (setOf (queueIn 1 (word w 8) q))
+      → FiguresFormed w s q
+  unfolding wordOf
+  count-as-figures e rx tx = record {
+    size = omega (arith, e);
+    free = omega (arith, e, free-counted);
+    inRx = set-as-bits _ _ _ (queues .rxDistinct) rx;
+    inTx = set-as-bits _ _ _ (queues .txDistinct) tx;
+  }
+
 -- The words.
 pub words-restated : (w : List ℕ) → (FixedBytes w × NumbersFormed (word w 7) (word w 17)) ↔ (Kept w × GoodNumbers 24 (registersIn w .numbers))
 words-restated w = (
@@ -246,15 +304,20 @@ words-restated w = (
   ),
 )
 
--- So the record is as it says here exactly where the public entries take it for a sound one of a well-formed chip.
-pub restated : (w s q : List ℕ) → ((i : ℕ) → getD s i 0 < 2 ^ 32) → RecordFormed w s q ↔ Ready w s q
-restated w s q fits = (
+-- So the record is as it says here exactly where the public entries take it for a sound one of a well-formed chip: of words and sets that are u16 and u32 numbers.
+pub restated : (w s q : List ℕ) → ((i : ℕ) → word w i < 65536) → ((i : ℕ) → getD s i 0 < 2 ^ 32) → RecordFormed w s q ↔ Ready w s q
+restated w s q typed fits = (
   λ f.
       let words = words-restated w .0 (f .fixed, f .numbers) in
       let pages = sets-restated s fits .0 (f .sets) in
       let queues = queues-as-lists s fits (word w 6) (word w 8) (word w 9) q (f .queues) in
+      let figures = figures-as-count w s q typed fits (pages .0) (pages .1) (queues .1) (f .figures) in
       record {
-        sound = record { kept = words .0; queues = queues .0; sets = pages .0 };
+        sound = record {
+          kept = words .0;
+          queues = record { long = queues .0 .long; rx = queues .0 .rx; tx = queues .0 .tx; completion = queues .0 .completion; inRx = figures .1; inTx = figures .2 };
+          sets = record { many = pages .0; free = figures .0 };
+        };
         well = record { count = lists-length s ∙ pages .0; pages = pages .1; numbers = words .1; queues = queues .1 };
       },
   λ r.
@@ -262,7 +325,8 @@ restated w s q fits = (
       record {
         fixed = words .0;
         numbers = words .1;
-        sets = sets-restated s fits .1 (r .sound .sets, r .well .pages);
-        queues = queues-as-bytes s fits (word w 6) (word w 8) (word w 9) q (r .sound .queues, r .well .queues);
+        sets = sets-restated s fits .1 (r .sound .sets .many, r .well .pages);
+        queues = queues-as-bytes s fits (word w 6) (word w 8) (word w 9) q (record { long = r .sound .queues .long; rx = r .sound .queues .rx; tx = r .sound .queues .tx; completion = r .sound .queues .completion }, r .well .queues);
+        figures = count-as-figures w s q typed fits (r .sound .sets .many) (r .well .pages) (r .well .queues) (r .sound .sets .free) (r .sound .queues .inRx) (r .sound .queues .inTx);
       },
 )

@@ -1,7 +1,7 @@
 -- What a store into a word of the file does to the registers that it stands for: a law for each word. Each goes by `written-out`: on a file that is
 -- written out to its 32 words both sides compute.
-use mathlib.Core.Path.{_≡_, refl, sym, _∙_}
-use mathlib.Core.List.{List, [], _∷_}
+use mathlib.Core.Path.{_≡_, refl, _∙_}
+use mathlib.Core.List.{List, _∷_}
 use Prim.Native.Nat.{ℕ, _+_, _*_, _/_, _%_, _<_}
 use native.Mathlib.Omega.{arith}
 use lib.ListN.{set}
@@ -10,7 +10,7 @@ use Rattle.rules.specs.Chip.{Registers}
 use Rattle.rules.specs.Fields.{setTcr, setEphsr, setRcr, setEcr, setReserved, setStation, setControl, setPacket, setResult, setPointer, setMask, setTable, setBank, setTxEmpty, setOverrun}
 use Rattle.rules.specs.Registers.{Lanes, low, high, both, mergedAt}
 use Rattle.state.specs.Meaning.{lowAfter, highAfter, Joined}
-use Rattle.state.specs.View.{word, registersIn, counts, Fixed, FixedIn, BlankIn, Latches, Kept}
+use Rattle.state.specs.View.{word, registersIn, figures, withRx, withTx, withCompletion, withMir, noFigures, FixedIn, BlankIn, Latches, Kept}
 use Rattle.state.specs.Written.{Written, written-out}
 use Rattle.state.specs.Promise.{Sets}
 
@@ -164,29 +164,43 @@ unfolding Written
 store-table-3 part v new w k = stored 27 new (λ r. setTable (mergedAt part v 6 (r .receiving .table)) r) (λ old. Joined part v old new) (λ a b c d e f g h i j k l m n o p q r s t u x y z a2 b2 c2 d2 e2 f2 g2 h2 fix blank joined.
     record { regs = rw (pair-6, ← joined .low, ← joined .high) refl; still = refl; kept = record { whole = refl; fixed = fix; blank = blank } }) w k
 
--- The counts of the queues: no register changes.
+-- The figures: no register changes.
 pub record Recounts (c w w′ : List ℕ) : Type 0 where
   pub regs : registersIn w′ ≡ registersIn w
-  pub counted : counts w′ ≡ c
+  pub counted : figures w′ ≡ c
   pub kept : Kept w′
 
-abbrev Counted : ℕ → ℕ → (List ℕ → List ℕ) → List ℕ → Type 0
-Counted at y c w = FixedIn w → BlankIn w → Recounts (c w) w (set w at y)
+abbrev Counted : (List ℕ → List ℕ) → (List ℕ → List ℕ) → List ℕ → Type 0
+Counted store c w = FixedIn w → BlankIn w → Recounts (c w) w (store w)
 
-counted : (at y : ℕ) (c : List ℕ → List ℕ) → Written 32 (Counted at y c) → (w : List ℕ) → Kept w → Recounts (c w) w (set w at y)
-counted at y c p w k = written-out 32 (Counted at y c) p w (k .whole) (k .fixed) (k .blank)
+counted : (store c : List ℕ → List ℕ) → Written 32 (Counted store c) → (w : List ℕ) → Kept w → Recounts (c w) w (store w)
+counted store c p w k = written-out 32 (Counted store c) p w (k .whole) (k .fixed) (k .blank)
 
-pub store-rx-count : (y : ℕ) (w : List ℕ) → Kept w → Recounts (y ∷ word w 8 ∷ word w 9 ∷ []) w (set w 6 y)
+-- RX: how many entries it has, and its packets' bits; and TX.
+pub store-rx : (y lower upper : ℕ) (w : List ℕ) → Kept w → Recounts (withRx y lower upper (figures w)) w (set (set (set w 6 y) 28 lower) 29 upper)
 unfolding Written
-store-rx-count y = counted 6 y (λ w. y ∷ word w 8 ∷ word w 9 ∷ []) (λ a b c d e f g h i j k l m n o p q r s t u x y z a2 b2 c2 d2 e2 f2 g2 h2 fix blank.
+store-rx y lower upper = counted (λ w. set (set (set w 6 y) 28 lower) 29 upper) (λ w. withRx y lower upper (figures w)) (λ a b c d e f g h i j k l m n o p q r s t u x y z a2 b2 c2 d2 e2 f2 g2 h2 fix blank.
     record { regs = refl; counted = refl; kept = record { whole = refl; fixed = fix; blank = blank } })
 
-pub store-tx-count : (y : ℕ) (w : List ℕ) → Kept w → Recounts (word w 6 ∷ y ∷ word w 9 ∷ []) w (set w 8 y)
+pub store-tx : (y lower upper : ℕ) (w : List ℕ) → Kept w → Recounts (withTx y lower upper (figures w)) w (set (set (set w 8 y) 30 lower) 31 upper)
 unfolding Written
-store-tx-count y = counted 8 y (λ w. word w 6 ∷ y ∷ word w 9 ∷ []) (λ a b c d e f g h i j k l m n o p q r s t u x y z a2 b2 c2 d2 e2 f2 g2 h2 fix blank.
+store-tx y lower upper = counted (λ w. set (set (set w 8 y) 30 lower) 31 upper) (λ w. withTx y lower upper (figures w)) (λ a b c d e f g h i j k l m n o p q r s t u x y z a2 b2 c2 d2 e2 f2 g2 h2 fix blank.
     record { regs = refl; counted = refl; kept = record { whole = refl; fixed = fix; blank = blank } })
 
-pub store-completion-count : (y : ℕ) (w : List ℕ) → Kept w → Recounts (word w 6 ∷ word w 8 ∷ y ∷ []) w (set w 9 y)
+-- How many entries completion has.
+pub store-completion : (y : ℕ) (w : List ℕ) → Kept w → Recounts (withCompletion y (figures w)) w (set w 9 y)
 unfolding Written
-store-completion-count y = counted 9 y (λ w. word w 6 ∷ word w 8 ∷ y ∷ []) (λ a b c d e f g h i j k l m n o p q r s t u x y z a2 b2 c2 d2 e2 f2 g2 h2 fix blank.
+store-completion y = counted (λ w. set w 9 y) (λ w. withCompletion y (figures w)) (λ a b c d e f g h i j k l m n o p q r s t u x y z a2 b2 c2 d2 e2 f2 g2 h2 fix blank.
+    record { regs = refl; counted = refl; kept = record { whole = refl; fixed = fix; blank = blank } })
+
+-- MIR.
+pub store-mir : (y : ℕ) (w : List ℕ) → Kept w → Recounts (withMir y (figures w)) w (set w 4 y)
+unfolding Written
+store-mir y = counted (λ w. set w 4 y) (λ w. withMir y (figures w)) (λ a b c d e f g h i j k l m n o p q r s t u x y z a2 b2 c2 d2 e2 f2 g2 h2 fix blank.
+    record { regs = refl; counted = refl; kept = record { whole = refl; fixed = fix; blank = blank } })
+
+-- All of them, where no packet has pages and no queue has entries: MIR is 1818h.
+pub store-none : (w : List ℕ) → Kept w → Recounts noFigures w (set (set (set (set (set (set (set (set w 6 0) 8 0) 9 0) 4 0x1818) 28 0) 29 0) 30 0) 31 0)
+unfolding Written
+store-none = counted (λ w. set (set (set (set (set (set (set (set w 6 0) 8 0) 9 0) 4 0x1818) 28 0) 29 0) 30 0) 31 0) (λ w. noFigures) (λ a b c d e f g h i j k l m n o p q r s t u x y z a2 b2 c2 d2 e2 f2 g2 h2 fix blank.
     record { regs = refl; counted = refl; kept = record { whole = refl; fixed = fix; blank = blank } })

@@ -31,21 +31,46 @@ registersIn w = record {
   mask = word w 22 / 256;
 }
 
--- how many entries RX, TX and completion have
-abbrev pub counts : List ℕ → List ℕ
-counts w = word w 6 ∷ word w 8 ∷ word w 9 ∷ []
+-- The figures that the words keep beside the registers: how many entries RX, TX and completion have; MIR, which counts the free pages; and which packets are in
+-- RX and in TX, packet k at bit k, the lower 16 bits in a word before the others.
+abbrev pub figures : List ℕ → List ℕ
+figures w = word w 6 ∷ word w 8 ∷ word w 9 ∷ word w 4 ∷ word w 28 ∷ word w 29 ∷ word w 30 ∷ word w 31 ∷ []
+
+-- The packets in RX, and those in TX, as one number: bit k for packet k.
+abbrev pub rxBits : List ℕ → ℕ
+rxBits w = word w 28 + word w 29 * 65536
+
+abbrev pub txBits : List ℕ → ℕ
+txBits w = word w 30 + word w 31 * 65536
+
+-- The figures c with others of RX, of TX, or of completion, and with another MIR.
+abbrev pub withRx : ℕ → ℕ → ℕ → List ℕ → List ℕ
+withRx n low high c = n ∷ word c 1 ∷ word c 2 ∷ word c 3 ∷ low ∷ high ∷ word c 6 ∷ word c 7 ∷ []
+
+abbrev pub withTx : ℕ → ℕ → ℕ → List ℕ → List ℕ
+withTx n low high c = word c 0 ∷ n ∷ word c 2 ∷ word c 3 ∷ word c 4 ∷ word c 5 ∷ low ∷ high ∷ []
+
+abbrev pub withCompletion : ℕ → List ℕ → List ℕ
+withCompletion n c = word c 0 ∷ word c 1 ∷ n ∷ word c 3 ∷ word c 4 ∷ word c 5 ∷ word c 6 ∷ word c 7 ∷ []
+
+abbrev pub withMir : ℕ → List ℕ → List ℕ
+withMir x c = word c 0 ∷ word c 1 ∷ word c 2 ∷ x ∷ word c 4 ∷ word c 5 ∷ word c 6 ∷ word c 7 ∷ []
+
+-- The figures where no packet has pages and no queue has entries.
+abbrev pub noFigures : List ℕ
+noFigures = 0 ∷ 0 ∷ 0 ∷ 0x1818 ∷ 0 ∷ 0 ∷ 0 ∷ 0 ∷ []
 
 -- the entries of queue k: the first `count` of its 24 bytes
 abbrev pub queueIn : ℕ → ℕ → List ℕ → List ℕ
 queueIn k count q = take count (slots k q)
 
--- by the counts c, the page sets s and the queues' bytes q
+-- by the figures c, the page sets s and the queues' bytes q
 abbrev pub poolIn : List ℕ → List ℕ → List ℕ → Pool
 poolIn c s q = record { pages = map pagesOf s; rx = queueIn 0 (word c 0) q; tx = queueIn 1 (word c 1) q; completion = queueIn 2 (word c 2) q }
 
 -- words, page sets, queues and memory
 abbrev pub view : List ℕ → List ℕ → List ℕ → List ℕ → Chip
-view w s q mem = record { regs = registersIn w; pool = poolIn (counts w) s q; memory = mem }
+view w s q mem = record { regs = registersIn w; pool = poolIn (figures w) s q; memory = mem }
 
 -- TX EMPTY and RX_OVRN stand at their bits of interrupt status, and no other bit is set
 abbrev pub Latches : ℕ → Type 0
@@ -63,22 +88,17 @@ pub record Fixed (bank reserved latches mask : ℕ) : Type 0 where
 abbrev pub FixedIn : List ℕ → Type 0
 FixedIn w = Fixed (word w 7) (word w 5) (word w 13) (word w 22)
 
--- and the words that hold nothing: those of MIR, command and heads, which a read finds, and those of no register, queue or latch
-pub record Blank (w4 w15 w16 w18 w20 w21 w23 w28 w29 w30 w31 : ℕ) : Type 0 where
-  pub none4 : w4 ≡ 0
+-- and the words that hold nothing: those of command, heads and data, which a read finds, and those of no register, figure or latch
+pub record Blank (w15 w16 w18 w20 w21 w23 : ℕ) : Type 0 where
   pub none15 : w15 ≡ 0
   pub none16 : w16 ≡ 0
   pub none18 : w18 ≡ 0
   pub none20 : w20 ≡ 0
   pub none21 : w21 ≡ 0
   pub none23 : w23 ≡ 0
-  pub none28 : w28 ≡ 0
-  pub none29 : w29 ≡ 0
-  pub none30 : w30 ≡ 0
-  pub none31 : w31 ≡ 0
 
 abbrev pub BlankIn : List ℕ → Type 0
-BlankIn w = Blank (word w 4) (word w 15) (word w 16) (word w 18) (word w 20) (word w 21) (word w 23) (word w 28) (word w 29) (word w 30) (word w 31)
+BlankIn w = Blank (word w 15) (word w 16) (word w 18) (word w 20) (word w 21) (word w 23)
 
 -- 32 words, with the fixed bytes as they must be
 pub record Kept (w : List ℕ) : Type 0 where

@@ -3,12 +3,13 @@
 use mathlib.Core.Path.{_≡_}
 use mathlib.Core.Bool.{true}
 use mathlib.Core.Logic.{_⊎_}
-use mathlib.Core.List.{List}
-use Prim.Native.Nat.{ℕ, _+_, _-_, _/_, _%_, _^_, _≤_, _<_}
+use mathlib.Core.List.{List, [], _∷_}
+use Prim.Native.Nat.{ℕ, _+_, _/_, _%_, _^_, _≤_, _<_}
 use lib.Count.{ones}
 use lib.ListN.{length, getD}
 use Rattle.rules.specs.Bits.{bit}
-use Rattle.state.specs.View.{word, counts, BlankIn}
+use Rattle.rules.specs.Lists.{member}
+use Rattle.state.specs.View.{word, rxBits, txBits, queueIn, BlankIn}
 
 -- A packet's pages are its set. ("page lists ascend" says nothing of a set: it has no order.)
 pub record SetsFormed (s : List ℕ) : Type 0 where
@@ -64,12 +65,27 @@ pub record FixedBytes (w : List ℕ) : Type 0 where
   pub latched : (k : ℕ) → bit k (word w 13) ≡ true → (k ≡ 2) ⊎ (k ≡ 4)
   -- the mask is a high byte
   pub maskLow : word w 22 % 256 ≡ 0
-  -- the words that hold nothing are 0: those of MIR, command and heads, which a read finds, and those of no register, queue or latch
+  -- the words that hold nothing are 0: those of command, heads and data, which a read finds, and those of no register, figure or latch
   pub blank : BlankIn w
 
--- all of it: the words' counts say how many entries a queue has
+-- how many pages the sets have, each for itself
+abbrev pub pagesIn : List ℕ → ℕ
+pagesIn [] = 0
+pagesIn (x ∷ xs) = ones x + pagesIn xs
+
+-- The kept figures are those that a full count gives (W7).
+pub record FiguresFormed (w s q : List ℕ) : Type 0 where
+  -- MIR: 24 pages, and in the high byte those that no packet has
+  pub size : word w 4 % 256 ≡ 24
+  pub free : word w 4 / 256 + pagesIn s ≡ 24
+  -- "in RX" and "in TX": bit k is set exactly where packet k is an entry
+  pub inRx : (k : ℕ) → bit k (rxBits w) ≡ member k (queueIn 0 (word w 6) q)
+  pub inTx : (k : ℕ) → bit k (txBits w) ≡ member k (queueIn 1 (word w 8) q)
+
+-- all of it: the words say how many entries a queue has
 pub record RecordFormed (w s q : List ℕ) : Type 0 where
   pub fixed : FixedBytes w
   pub numbers : NumbersFormed (word w 7) (word w 17)
   pub sets : SetsFormed s
   pub queues : QueuesFormed (word w 6) (word w 8) (word w 9) s q
+  pub figures : FiguresFormed w s q

@@ -7,6 +7,7 @@ pub use bytes::is_high;
 pub use bytes::merged;
 pub use bytes::misplaced;
 pub use bytes::taken;
+pub use places::ALL_FREE;
 pub use places::BANK;
 pub use places::COMMAND;
 pub use places::COMPLETION;
@@ -15,6 +16,10 @@ pub use places::CONTROL;
 pub use places::ECR;
 pub use places::EPHSR;
 pub use places::HEADS;
+pub use places::IN_RX;
+pub use places::IN_RX_HIGH;
+pub use places::IN_TX;
+pub use places::IN_TX_HIGH;
 pub use places::INTERRUPT;
 pub use places::LATCHES;
 pub use places::MIR;
@@ -38,9 +43,7 @@ pub use places::TX_COUNT;
 ghost use mathlib.Core.Path.{_≡_};
 ghost use Rattle.state.specs.Meaning.{replyOf};
 
-// The memory: so many pages, and the bytes of one.
-pub const PAGES: u8 = 24;
-
+// The bytes of a page.
 pub const PAGE_BYTES: u32 = 256;
 
 // Packet numbers are below this, and a queue has room for all of them.

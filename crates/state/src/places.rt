@@ -1,5 +1,5 @@
 // Where in the lent state things stand.
-// A register's word stands at bank * 8 + offset / 2, as a word read gives it. What no word read gives (counts, latches) stands at places of no register.
+// A register's word stands at bank * 8 + offset / 2, as a word read gives it. What no word read gives (the queues' counts and bits, latches) stands at places of no register.
 pub const TCR: usize = 0;
 
 pub const EPHSR: usize = 1;
@@ -8,7 +8,7 @@ pub const RCR: usize = 2;
 
 pub const ECR: usize = 3;
 
-// counted for each read: the word itself is 0
+// how many pages there are; how many are free in the high byte
 pub const MIR: usize = 4;
 
 // pages reserved for transmit; 33h in the high byte
@@ -60,6 +60,19 @@ pub const TABLE_1: usize = 25;
 pub const TABLE_2: usize = 26;
 
 pub const TABLE_3: usize = 27;
+
+// two words: which packets are in RX, bit k for packet k, the lower 16 bits first
+pub const IN_RX: usize = 28;
+
+pub const IN_RX_HIGH: usize = 29;
+
+// two words: which packets are in TX
+pub const IN_TX: usize = 30;
+
+pub const IN_TX_HIGH: usize = 31;
+
+// MIR where every page is free.
+pub const ALL_FREE: u16 = 0x1818;
 
 // Where the queues stand in their 72 bytes.
 pub const RX: usize = 0;

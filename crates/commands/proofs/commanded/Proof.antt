@@ -32,7 +32,7 @@ do-allocate-requires c κs =
     let d = o .before .before in
     let s = d .before .before .before .before in
     let v = subst Valid (sym (d .decoded .ensures) ∙ ap commandOf (o .order .given .1)) (decode-valid (s .args .value)) in
-    (v .0, s .pre .sound .kept, s .pre .sound .sets, s .pre .well .pages)
+    (v .0, v .1, s .pre .sound .kept, s .pre .sound .sets, s .pre .well .pages)
 
 returns : tie.Need-returns
 unfolding perform
@@ -59,7 +59,11 @@ returns-5 : tie.Need-returns-5
 returns-5 c = let a = c .before .before .before .before .before .before in let t = a .before .before .before .before in as-told (t .before .before) (t .enum-told4 .given .1) (a .do-remove-and-release .ensures)
 
 returns-6 : tie.Need-returns-6
-returns-6 c = let a = c .before .before in let t = a .before .before .before .before in as-told (t .before .before) (t .enum-told5 .given .1) (a .do-release .ensures)
+returns-6 c =
+    let a = c .before .before .before .before in
+    let t = a .before .before .before in
+    let d = t .before .before in
+    as-told d (t .enum-told5 .given .1) (a .do-release .ensures _ (ready d))
 
 returns-7 : tie.Need-returns-7
 returns-7 c = let a = c .before .before .before .before in let t = a .before .before .before .before in as-told (t .before .before) (t .enum-told6 .given .1) (a .do-enqueue .ensures)
@@ -111,7 +115,6 @@ commanded-spec =
     (λ c. search needs)
     (λ c. search needs)
     returns-5
-    (λ c. search needs)
     (λ c. search needs)
     (λ c. search needs)
     returns-6

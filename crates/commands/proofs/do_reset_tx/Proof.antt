@@ -12,10 +12,10 @@ use Rattle.commands.proofs.do_reset_tx.Tie as tie
 
 returns : tie.Need-returns
 unfolding perform
-returns c = λ s long mem.
+returns c = λ s pages mem.
     let a = c .before .before .before .before .before .before .before .before .before .before .before .before .before .before .before .before .args in
     let both = rejoins-both (c .before .before .before .before .before .before .before .before .before .before .before .empty-tx .ensures) (c .before .before .before .before .empty-completion .ensures) in
-    performs rules.resetTx (a .words .now) s (a .queues .now) mem (inPool (λ p. setCompletion [] (setTx [] p))) refl (rejoins-chip both s mem) (rejoins-sound both long)
+    performs rules.resetTx (a .words .now) s (a .queues .now) mem (inPool (λ p. setCompletion [] (setTx [] p))) refl (rejoins-chip both s mem) (rejoins-sound both pages)
 
 pub do-reset-tx-spec : {M : Type 1} → statement M
 do-reset-tx-spec =

@@ -1,9 +1,18 @@
--- Words, page sets and queues, each decided by its test.
-use mathlib.Core.Path.{_∙_}
+-- Words, page sets and queues, each decided by its test; and MIR by the pages that are counted free.
+use mathlib.Core.Path.{_≡_, _∙_}
+use mathlib.Core.Bool.{true}
+use mathlib.Core.List.{map}
+use Prim.Native.Nat.{ℕ, _≤_}
+use native.Mathlib.Omega.{arith}
 use borrow.Author.Needs.{needs}
 use borrow.Author.Tests.{not-true, not-false}
-use Rattle.lists.specs.Facts.{refutes, agrees}
+use lib.ListN.{length}
+use Rattle.rules.specs.Bits.{wordOf}
+use Rattle.rules.specs.Lists.{freeBelow}
+use Rattle.lists.specs.Facts.{refutes, agrees, free-few}
+use Rattle.sets.specs.Views.{pagesOf}
 use Rattle.sets.specs.Lists.{lists-length}
+use Rattle.sets.specs.Good.{never}
 use Rattle.guard.proofs.well_formed.Statement.{statement}
 use Rattle.guard.proofs.well_formed.Tie as tie
 
@@ -11,36 +20,57 @@ returns : tie.Need-returns
 returns c = refutes (c .before .words-good .ensures) (λ r. (r .sound .kept, r .well .numbers)) (not-true _ (c .if1 .taken))
 
 returns-2 : tie.Need-returns-2
-returns-2 c = refutes (c .before .sets-good .ensures) (λ r. r .well .pages) (not-true _ (c .if2 .taken))
+returns-2 c = refutes (c .before .before .audit .ensures .0) (λ r. r .well .pages) (not-true _ (c .if2 .taken))
+
+-- The pages are good, and so many are free.
+module _ (e : tie.Else2) where
+  abbrev a : tie.After-audit
+  a = e .before .before
+
+  abbrev s : tie.Start
+  s = a .before .before .before .before .before .before
+
+  abbrev free : ℕ
+  free = length (freeBelow 24 (map pagesOf (s .args .sets .now)))
+
+  good : a .audit .result .0 ≡ true
+  good = not-false _ (e .if2 .left)
+
+  counted : a .audit .result .1 ≡ free
+  counted = a .audit .ensures .1 good
+
+  few : a .audit .result .1 ≤ 24
+  few = omega (arith, counted, free-few 24 (map pagesOf (s .args .sets .now)))
+
+cast-if3 : tie.Need-cast-if3
+cast-if3 c = omega (arith, c .shared-slice-known4 .given 4)
+
+mul-if3 : tie.Need-mul-if3
+mul-if3 c = omega (arith, few (c .before .before))
+
+add-if3 : tie.Need-add-if3
+add-if3 c = omega (arith, few (c .before .before))
 
 returns-3 : tie.Need-returns-3
-returns-3 c = refutes (c .before .queues-sound .ensures) (λ r. r .sound .queues) (not-true _ (c .if3 .taken))
-
-entries-good-requires : tie.Need-entries-good-requires
-entries-good-requires c κs =
-    let s = c .before .before .before .before .before .before .before .before .before in
-    (s .pre .0, s .pre .1, c .before .queues-sound .ensures .sound (not-false _ (c .if3 .left)))
+unfolding wordOf
+returns-3 c = let e = c .before .before .before in never (λ r. omega (arith, c .if3 .taken, r .sound .sets .free, counted e))
 
 returns-4 : tie.Need-returns-4
+unfolding wordOf
 returns-4 c =
-    let q = c .before in
-    let p = q .before .before in
-    let w = p .before .before in
-    let s = w .before .before .before .before .before in
-    let words = w .before .words-good .ensures .sound (not-false _ (w .if1 .left)) in
-    agrees (c .entries-good .ensures)
+    let m = c .before in
+    let e = m .before .before .before in
+    let b = a e .before in
+    let words = b .before .words-good .ensures .sound (not-false _ (b .if1 .left)) in
+    agrees (c .queues-good .ensures)
     (λ g. record {
-      sound = record { kept = words .0; queues = q .before .queues-sound .ensures .sound (not-false _ (q .if3 .left)); sets = s .pre .1 };
-      well = record {
-        count = lists-length (s .args .sets .now) ∙ s .pre .1;
-        pages = p .before .sets-good .ensures .sound (not-false _ (p .if2 .left));
-        numbers = words .1;
-        queues = g;
-      };
+      sound = record { kept = words .0; queues = g .0; sets = record { many = s e .pre .1; free = omega (arith, m .if3 .left, counted e) } };
+      well = record { count = lists-length (s e .args .sets .now) ∙ s e .pre .1; pages = a e .audit .ensures .0 .sound (good e); numbers = words .1; queues = g .1 };
     })
-    (λ r. r .well .queues)
+    (λ r. (r .sound .queues, r .well .queues))
 
 pub well-formed-spec : {M : Type 1} → statement M
 well-formed-spec =
     tie.close
-    (tie.spec (λ c κs. search needs) returns (λ c κs. search needs) returns-2 (λ c κs. search needs) returns-3 entries-good-requires returns-4)
+    (tie.spec
+    (λ c κs. search needs) returns (λ c κs. search needs) returns-2 (λ c. search needs) cast-if3 mul-if3 add-if3 returns-3 (λ c κs. search needs) returns-4)

@@ -1,22 +1,25 @@
--- The queue's bytes are those of its new entries, and its count is stored.
-use mathlib.Core.Path.{_∙_}
+-- The queue's bytes are those of no entries; its count and its packets' bits are stored.
+use mathlib.Core.Path.{refl, _∙_}
 use native.Mathlib.Omega.{arith}
-use Rattle.queues.specs.Parts.{part-long}
-use Rattle.state.specs.View.{counts}
-use Rattle.state.specs.Stores.{store-tx-count}
-use Rattle.pool.specs.Queues.{rejoined, requeued-tx}
 use borrow.Author.Needs.{needs}
+use Rattle.sets.specs.Members.{setOf}
+use Rattle.queues.specs.Parts.{part-long}
+use Rattle.state.specs.View.{figures}
+use Rattle.pool.specs.Queues.{rejoined, requeued-tx}
+use Rattle.pool.proofs.Marks.{halves}
 use Rattle.pool.proofs.empty_tx.Statement.{statement}
 use Rattle.pool.proofs.empty_tx.Tie as tie
 
 returns : tie.Need-returns
+unfolding setOf
 returns c =
-    let s = c .before .before .before .before .before .before in
-    let u = c .before .before .empty .ensures in
+    let j = c .before .before .before .before .before in
+    let u = j .before .empty .ensures in
+    let s = j .before .before .before .before .before in
     let h = s .pre .1 in
-    let w = s .args .words .now in
     let q = s .args .queues .now in
-    rejoined (store-tx-count _ w (s .pre .0)) (requeued-tx (counts w) q _ _ _ h (u .0) (u .1 ∙ part-long 1 q (h .long) (omega arith)))
+    rejoined (c .before .before .store-tx .ensures) refl
+    (requeued-tx (figures (s .args .words .now)) q _ _ _ h (u .0) (u .1 ∙ part-long 1 q (h .long) (omega arith)) _ _ (halves 0 0 refl))
 
 pub empty-tx-spec : {M : Type 1} → statement M
 empty-tx-spec =
@@ -26,7 +29,7 @@ empty-tx-spec =
     (λ c. search needs)
     (λ c. search needs)
     (λ c κs. search needs)
-    (λ c. search needs)
+    (λ c κs. search needs)
     (λ c. search needs)
     (λ c. search needs)
     returns)

@@ -1,9 +1,9 @@
 -- The queue's bytes are those of its new entries, and its count is stored.
-use mathlib.Core.Path.{_∙_}
+use mathlib.Core.Path.{refl, _∙_}
 use native.Mathlib.Omega.{arith}
 use Rattle.queues.specs.Parts.{part-long}
-use Rattle.state.specs.View.{counts}
-use Rattle.state.specs.Stores.{store-completion-count}
+use Rattle.state.specs.View.{figures}
+use Rattle.state.specs.Stores.{store-completion}
 use Rattle.pool.specs.Queues.{rejoined, requeued-completion}
 use borrow.Author.Needs.{needs}
 use Rattle.pool.proofs.leave_completion.Statement.{statement}
@@ -16,7 +16,7 @@ returns c =
     let h = s .pre .1 in
     let w = s .args .words .now in
     let q = s .args .queues .now in
-    rejoined (store-completion-count _ w (s .pre .0)) (requeued-completion (counts w) q _ _ _ h (u .0 _ (h .completion)) (u .1 ∙ part-long 2 q (h .long) (omega arith)))
+    rejoined (store-completion _ w (s .pre .0)) refl (requeued-completion (figures w) q _ _ _ h (u .0 _ (h .completion)) (u .1 ∙ part-long 2 q (h .long) (omega arith)))
 
 pub leave-completion-spec : {M : Type 1} → statement M
 leave-completion-spec =

@@ -5,7 +5,6 @@ use mathlib.Core.Bool.{false}
 use mathlib.Core.List.{List, [], _∷_}
 use Prim.Native.Nat.{ℕ}
 use native.Mathlib.Omega.{arith}
-use lib.ListN.{length}
 use Rattle.rules.specs.Lists.{member}
 use Rattle.rules.specs.Tests.{allBelow}
 use Rattle.rules.specs.Registers as rules
@@ -83,21 +82,21 @@ arms =
 returns : tie.Need-returns
 returns c = let s = c .before .before .before .before .before .before in read-nowhere _ _ (s .pre .0 .sound) (sym (c .before .misplaced .ensures) ∙ c .if1 .taken)
 
-slice-read-gives-2 : tie.Need-slice-read-gives-2
-unfolding allBelow
-slice-read-gives-2 c =
-    let e = c .before .before .before in
-    let k = key-below 32 (0 ∷ 2 ∷ 10 ∷ 12 ∷ 14 ∷ 16 ∷ 19 ∷ 24 ∷ 26 ∷ []) _ refl (c .before .match .keys8) in
-    omega (arith, kept e .whole)
-
 slice-read-gives-3 : tie.Need-slice-read-gives-3
 unfolding allBelow
 slice-read-gives-3 c =
     let e = c .before .before .before in
+    let k = key-below 32 (0 ∷ 2 ∷ 10 ∷ 12 ∷ 14 ∷ 16 ∷ 19 ∷ 24 ∷ 26 ∷ []) _ refl (c .before .match .keys8) in
+    omega (arith, kept e .whole)
+
+slice-read-gives-4 : tie.Need-slice-read-gives-4
+unfolding allBelow
+slice-read-gives-4 c =
+    let e = c .before .before .before in
     let k = key-below 32 (1 ∷ 5 ∷ 11 ∷ 17 ∷ 25 ∷ 27 ∷ []) _ refl (c .before .match .keys9) in
     omega (arith, kept e .whole)
 
--- ECR, and what is found for each read
+-- ECR, MIR, and what is found for each read
 returns-2 : tie.Need-returns-2
 unfolding registerIn registerAt
 returns-2 c =
@@ -110,7 +109,7 @@ unfolding registerIn registerAt
 returns-3 c =
     let m = c .before .before in
     let e = m .before .before in
-    there e (answered (c .gives2 .ensures) (rw (m .match .keys2) (reads-mir (lanes e) _ _ _ (sound e) _ (c .before .mir .ensures) (memory e))))
+    there e (answered (c .gives2 .ensures) (rw (m .match .keys2) (reads-mir (lanes e) _ _ _ (sound e) (memory e))))
 
 returns-4 : tie.Need-returns-4
 unfolding registerIn registerAt
@@ -200,7 +199,7 @@ read-spec =
     (λ c. search needs)
     (λ c κs. kept (c .before .before .before))
     (λ c κs. search needs)
-    (λ c κs. sound (c .before .before) .sets)
+    (λ c. search needs)
     (λ c κs. search needs)
     (λ c κs. let o = sound (c .before .before .before) in (o .kept, o .queues))
     (λ c κs. search needs)
@@ -209,10 +208,10 @@ read-spec =
     (λ c. search needs)
     (λ c κs. search needs)
     (λ c. search needs)
-    slice-read-gives-2
+    slice-read-gives-3
     (λ c κs. search needs)
     (λ c. search needs)
-    slice-read-gives-3
+    slice-read-gives-4
     (λ c κs. search needs)
     (λ c κs. search needs)
     (λ c κs. start (c .before .before .before .before .before) .pre)

@@ -4,14 +4,12 @@ use mathlib.Core.Path.{_≡_, refl, sym, _∙_}
 use mathlib.Core.Bool.{false}
 use mathlib.Core.List.{List, [], _∷_}
 use Prim.Native.Nat.{ℕ}
-use native.Mathlib.Omega.{arith}
-use lib.ListN.{length}
 use Rattle.rules.specs.Lists.{member}
 use Rattle.rules.specs.Tests.{allBelow}
 use Rattle.rules.specs.Registers as rules
 use Rattle.rules.specs.Registers.{Lanes, misplaced, lanesAt, registerAt, writeRegister, access}
 use Rattle.state.specs.declared.Answer.{Answer}
-use Rattle.state.specs.declared.Answer.the-variants.{NotModelled, ReadOnly}
+use Rattle.state.specs.declared.Answer.the-variants.{Done, NotModelled, ReadOnly}
 use Rattle.state.specs.Meaning.{widthOf}
 use Rattle.state.specs.View.{view, Kept}
 use Rattle.state.specs.Keys.{by-key, key-below, passed, inSome}
@@ -19,7 +17,7 @@ use Rattle.state.specs.Promise.{Sound, Makes, Does, does-makes}
 use Rattle.state.specs.Laws.{registerIn}
 use Rattle.state.specs.Writes.{Plain, writes-control, writes-pointer, writes-station-0, writes-station-1, writes-station-2, writes-table-0, writes-table-1, writes-table-2, writes-table-3, writes-ephsr, writes-ecr, writes-mir, writes-heads, writes-unused, writes-absent}
 use Rattle.accesses.proofs.Reach.{placeOf, place-below, write-nowhere, write-there, makes-as, writes-data}
-use Rattle.accesses.proofs.Places.{unused-left, data-left}
+use Rattle.accesses.proofs.Places.{data-alone}
 use Rattle.accesses.proofs.writes.write.Statement.{statement}
 use Rattle.accesses.proofs.writes.write.Tie as tie
 
@@ -72,7 +70,9 @@ plain e d = does-makes d (sound e) (memory e)
 -- the keys of the arms, from the last to the first
 abbrev arms : List (List ℕ)
 arms =
-    (11 ∷ 25 ∷ 27 ∷ [])
+    (41 ∷ 43 ∷ 45 ∷ 49 ∷ 51 ∷ 53 ∷ 57 ∷ 59 ∷ 61 ∷ [])
+    ∷ (40 ∷ 42 ∷ 44 ∷ 46 ∷ 48 ∷ 50 ∷ 52 ∷ 54 ∷ 56 ∷ 58 ∷ 60 ∷ 62 ∷ [])
+    ∷ (11 ∷ 25 ∷ 27 ∷ [])
     ∷ (10 ∷ 12 ∷ 14 ∷ 19 ∷ 24 ∷ 26 ∷ [])
     ∷ (9 ∷ 29 ∷ 33 ∷ 35 ∷ 37 ∷ [])
     ∷ (6 ∷ 8 ∷ 13 ∷ 28 ∷ 30 ∷ 32 ∷ 34 ∷ 36 ∷ 38 ∷ [])
@@ -194,24 +194,30 @@ returns-14 c =
     let law = by-key (λ (k : ℕ). Plain (registerIn k) k) (11 ∷ 25 ∷ 27 ∷ []) _ (m .match .keys13) writes-station-1 writes-table-1 writes-table-3 in
     there e (plain e (c .before .before .write-word2 .ensures .0 (registerIn (place e)) law))
 
--- data, and banks 5 to 7
+-- banks 5 to 7
 returns-15 : tie.Need-returns-15
-unfolding passed inSome member
+unfolding registerIn registerAt
 returns-15 c =
-    let r = c .before .before .before .before in
-    let t = r .before .before .before .before .before .before in
-    let m = t .before in
-    let e = m .before .before in
-    let reached = data-left arms refl (place e) (t .if2 .taken) (m .match .rest) in
-    there e (rw reached (makes-as (writes-data (start e .args .width) (offset e) (value e) _) (rw (r .before .is-wide .ensures) at (r .write-data .ensures))))
+    let e = c .before .before in
+    let u = writes-unused (lanes e) (value e) (words e) (kept e) in
+    there e (plain e (by-key (λ (k : ℕ). Does (writeRegister (registerIn k) (lanes e) (value e)) (words e) (Done 0) (words e)) (40 ∷ 42 ∷ 44 ∷ 46 ∷ 48 ∷ 50 ∷ 52 ∷ 54 ∷ 56 ∷ 58 ∷ 60 ∷ 62 ∷ []) _ (c .match .keys14) u u u u u u u u u u u u))
 
 returns-16 : tie.Need-returns-16
-unfolding passed inSome member
+unfolding registerIn registerAt
 returns-16 c =
-    let m = c .before in
+    let e = c .before .before in
+    let u = writes-unused (lanes e) (value e) (words e) (kept e) in
+    there e (plain e (by-key (λ (k : ℕ). Does (writeRegister (registerIn k) (lanes e) (value e)) (words e) (Done 0) (words e)) (41 ∷ 43 ∷ 45 ∷ 49 ∷ 51 ∷ 53 ∷ 57 ∷ 59 ∷ 61 ∷ []) _ (c .match .keys15) u u u u u u u u u))
+
+-- data
+returns-17 : tie.Need-returns-17
+unfolding passed inSome member
+returns-17 c =
+    let r = c .before .before .before .before in
+    let m = r .before .before .before .before .before .before in
     let e = m .before .before in
-    let unused = unused-left arms refl (place e) (place-below _ _ (words e) (sets e) (queues e) (memory e) (kept e) (placed e)) (omega (arith, c .if2 .left)) (m .match .rest) in
-    there e (rw unused (does-makes (writes-unused (lanes e) (value e) (words e) (kept e)) (sound e) (memory e)))
+    let reached = data-alone arms refl (place e) (place-below _ _ (words e) (sets e) (queues e) (memory e) (kept e) (placed e)) (m .match .rest) in
+    there e (rw reached (makes-as (writes-data (start e .args .width) (offset e) (value e) _) (rw (r .before .is-wide .ensures) at (r .write-data .ensures))))
 
 pub write-spec : {M : Type 1} → statement M
 write-spec =
@@ -233,7 +239,7 @@ write-spec =
     write-word-requires
     write-word-requires-2
     (λ c κs. search needs)
-    (λ c κs. start (c .before .before .before .before .before .before .before .before) .pre)
+    (λ c κs. start (c .before .before .before .before .before .before .before) .pre)
     (λ c. search needs)
     returns-2
     (λ c. search needs)
@@ -261,9 +267,10 @@ write-spec =
     returns-13
     (λ c. search needs)
     returns-14
-    (λ c. search needs)
-    (λ c. search needs)
-    (λ c. search needs)
-    (λ c. search needs)
     returns-15
-    returns-16)
+    returns-16
+    (λ c. search needs)
+    (λ c. search needs)
+    (λ c. search needs)
+    (λ c. search needs)
+    returns-17)

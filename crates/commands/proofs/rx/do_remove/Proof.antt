@@ -15,19 +15,19 @@ use Rattle.commands.proofs.rx.do_remove.Statement.{statement}
 use Rattle.commands.proofs.rx.do_remove.Tie as tie
 
 returns : tie.Need-returns
-returns c = λ s long mem.
+returns c = λ s pages mem.
     let a = c .before .before .before .before in
-    unchanged rules.removeRx _ s _ mem answer.RxEmpty (record { kept = a .pre .0; queues = a .pre .1; sets = long }) (removes-none _ (sym (a .pre .1 .rx .many) ∙ c .if1 .taken))
+    unchanged rules.removeRx _ s _ mem answer.RxEmpty (record { kept = a .pre .0; queues = a .pre .1; sets = pages }) (removes-none _ (sym (a .pre .1 .rx .many) ∙ c .if1 .taken))
 
 returns-2 : tie.Need-returns-2
-returns-2 c = λ s long mem.
+returns-2 c = λ s pages mem.
     let l = c .before .before .before .before in
     let e = l .before .before .before in
     let a = e .before .before .before .before in
     let w = a .args .words .now in
     let q = a .args .queues .now in
     let some : 0 < length (queueIn 0 (word w 6) q) = omega (arith, a .pre .1 .rx .many, e .if1 .left) in
-    performs rules.removeRx w s q mem (λ x. inPool (setRx (drop 1 (x .pool .rx))) x) (removes (view w s q mem) some) (rejoins-chip (l .leave-rx .ensures) s mem) (rejoins-sound (l .leave-rx .ensures) long)
+    performs rules.removeRx w s q mem (λ x. inPool (setRx (drop 1 (x .pool .rx))) x) (removes (view w s q mem) some) (rejoins-chip (l .leave-rx .ensures .1) s mem) (rejoins-sound (l .leave-rx .ensures .1) pages)
 
 pub do-remove-spec : {M : Type 1} → statement M
 do-remove-spec =

@@ -1,7 +1,7 @@
 -- Each test is a field.
 use borrow.Author.Needs.{needs}
 use Rattle.lists.specs.Facts.{agrees}
-use Rattle.guard.specs.Zeros.{never}
+use Rattle.sets.specs.Good.{never}
 use Rattle.guard.proofs.words.fixed_good.Statement.{statement}
 use Rattle.guard.proofs.words.fixed_good.Tie as tie
 

@@ -9,7 +9,7 @@ use Rattle.rules.specs.Bits.{bit, flag}
 use Rattle.lists.specs.Facts.{always}
 use Rattle.state.specs.View.{Latches}
 use Rattle.state.specs.Keys.{by-key}
-use Rattle.guard.specs.Zeros.{never}
+use Rattle.sets.specs.Good.{never}
 use Rattle.guard.proofs.words.latches_good.Statement.{statement}
 use Rattle.guard.proofs.words.latches_good.Tie as tie
 

@@ -3,7 +3,7 @@ use mathlib.Core.Logic.{inl, inr, ⊎-elim}
 use Prim.Native.Nat.{_/_}
 use native.Mathlib.Omega.{arith}
 use Rattle.lists.specs.Facts.{always, agrees, eq-decides}
-use Rattle.guard.specs.Zeros.{never}
+use Rattle.sets.specs.Good.{never}
 use Rattle.guard.proofs.words.packet_good.Statement.{statement}
 use Rattle.guard.proofs.words.packet_good.Tie as tie
 

@@ -15,25 +15,25 @@ use Rattle.receive.proofs.judge.is_full.Tie as tie
 
 data-few : (d : tie.After-data-length) → d .data-length .result ≤ 1532
 data-few d =
-    let s = d .before .before .before .before in
+    let s = d .before .before .before in
     omega (arith, d .data-length .ensures, data-short (withRcr (word (s .args .words .now) 2)) (s .args .len), s .pre .2)
 
-is-need : (p : tie.After-pages-for) → let s = p .before .before .before .before .before in p .pages-for .result ≡ needed (registersIn (s .args .words .now)) (s .args .len)
+is-need : (p : tie.After-pages-for) → let s = p .before .before .before .before in p .pages-for .result ≡ needed (registersIn (s .args .words .now)) (s .args .len)
 is-need p =
-    let s = p .before .before .before .before .before in
+    let s = p .before .before .before .before in
     needed-by (registersIn (s .args .words .now)) _ _ _ (p .before .data-length .ensures) (p .pages-for .ensures)
 
 add-result : tie.Need-add-result
 add-result c =
     let p = c .before .before in
-    let s = p .before .before .before .before .before in
+    let s = p .before .before .before .before in
     record { fits = omega (arith, is-need p, needs-seven (registersIn (s .args .words .now)) (s .args .len) (s .pre .2)) }
 
 returns : tie.Need-returns
 returns c =
     let p = c .before .before in
-    let s = p .before .before .before .before .before in
-    ap₂ (λ (x y : ℕ). ltb x (y + word (s .args .words .now) 5 % 256)) (c .before .free-count .ensures) (is-need p)
+    let s = p .before .before .before .before in
+    λ sets h. ap₂ (λ (x y : ℕ). ltb x (y + word (s .args .words .now) 5 % 256)) (c .before .free-count .ensures sets h) (is-need p)
 
 pub is-full-spec : {M : Type 1} → statement M
 is-full-spec =

@@ -1,10 +1,11 @@
--- The registers are set beside the queues, and then the head leaves TX.
+-- The registers are set beside the queues, and then the head leaves TX: the same head, as TX has as many entries.
 use borrow.Author.Needs.{needs}
-use mathlib.Core.Path.{ap, sym, subst}
+use mathlib.Core.Path.{ap, sym, subst, _∙_}
 use mathlib.Core.List.{List}
 use Prim.Native.Nat.{ℕ}
 use native.Mathlib.Omega.{arith}
-use Rattle.state.specs.View.{word}
+use lib.ListN.{getD}
+use Rattle.state.specs.View.{word, queueIn}
 use Rattle.state.specs.Promise.{QueuesIn}
 use Rattle.sending.specs.Numbers.{sendOf}
 use Rattle.sending.proofs.Facts.{leaves}
@@ -23,7 +24,11 @@ returns c =
     let l = c .before .before .before .before in
     let r = l .before .before .before .before .before in
     let s = r .before .before .before .before in
-    leaves (s .args .good) (sendOf (s .args .s)) (s .args .address) (s .pre .1) (s .pre .2) (r .set-registers .ensures) (l .leave-tx .ensures)
+    let e = r .set-registers .ensures in
+    let f = l .leave-tx .ensures in (
+      f .0 ∙ ap (λ (n : List ℕ). getD (queueIn 1 (word n 1) (s .args .queues .now)) 0 0) (e .still),
+      leaves (s .args .good) (sendOf (s .args .s)) (s .args .address) (s .pre .1) (s .pre .2) e (f .1),
+    )
 
 pub after-send-spec : {M : Type 1} → statement M
 after-send-spec =

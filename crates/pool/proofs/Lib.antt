@@ -1,0 +1,4 @@
+-- Proofs that belong to no one function.
+pub mod Marks
+pub mod Emptied
+pub mod Paged

@@ -1,0 +1,21 @@
+use native.Mathlib.Omega.{arith}
+use borrow.Author.Needs.{needs}
+use lib.ListN.{length-set}
+use Rattle.state.specs.Stores.{store-none}
+use Rattle.pool.proofs.figures.store_none.Statement.{statement}
+use Rattle.pool.proofs.figures.store_none.Tie as tie
+
+pub store-none-spec : {M : Type 1} → statement M
+store-none-spec =
+    tie.close
+    (tie.spec
+    (λ c. search needs)
+    (λ c. search needs)
+    (λ c. search needs)
+    (λ c. search needs)
+    (λ c. simp length-set (omega (arith, c .pre .whole)))
+    (λ c. simp length-set (omega (arith, c .pre .whole)))
+    (λ c. simp length-set (omega (arith, c .pre .whole)))
+    (λ c. simp length-set (omega (arith, c .pre .whole)))
+    (λ c. search needs)
+    (λ c. store-none (c .args .words .now) (c .pre)))

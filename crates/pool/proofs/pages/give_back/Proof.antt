@@ -1,0 +1,62 @@
+-- The packet's pages are some of the 24, and none of those that are free.
+use mathlib.Core.Path.{_≡_, refl, ap}
+use mathlib.Core.List.{List, [], map}
+use Prim.Native.Nat.{ℕ, _+_, _≤_, _<_}
+use native.Mathlib.Omega.{arith}
+use borrow.Author.Needs.{needs}
+use lib.ListN.{length, getD, set}
+use Rattle.rules.specs.Bits.{wordOf}
+use Rattle.rules.specs.Lists.{freeBelow}
+use Rattle.rules.specs.WellFormed.{GoodPages}
+use Rattle.lists.specs.Facts.{free-few}
+use Rattle.wellformed.specs.Count.{free-set}
+use Rattle.wellformed.specs.Pages.{back-good}
+use Rattle.sets.specs.Views.{pagesOf}
+use Rattle.sets.specs.Lists.{list-at, lists-length}
+use Rattle.state.specs.Stores.{store-mir}
+use Rattle.pool.proofs.Paged.{repaged}
+use Rattle.pool.proofs.pages.give_back.Statement.{statement}
+use Rattle.pool.proofs.pages.give_back.Tie as tie
+
+-- they are 24 at most, with those that are free
+few : (s : List ℕ) (k : ℕ) → length s ≡ 24 → k < 24 → GoodPages 24 (map pagesOf s) → length (freeBelow 24 (map pagesOf s)) + length (getD (map pagesOf s) k []) ≤ 24
+few s k long number good =
+    let there : k < length (map pagesOf s) = omega (arith, lists-length s) in
+    omega (arith, free-set 24 (map pagesOf s) k [] there good (back-good 24 (map pagesOf s) k there good), free-few 24 (set (map pagesOf s) k []))
+
+more-requires : tie.Need-more-requires
+unfolding wordOf
+more-requires c κs =
+    let n = c .before in
+    let s = n .before .before .before .before .before in
+    let k = s .args .packet .0 in
+    let p = s .pre in
+    omega (arith, n .page-count .ensures, ap length (list-at (s .args .sets .now) k), p .1 .free, few (s .args .sets .now) k (p .1 .many) (p .3) (p .2))
+
+returns : tie.Need-returns
+returns c =
+    let r = c .before .before .released .ensures in
+    let m = c .before .before .before .before in
+    let n = m .before .before in
+    let s = n .before .before .before .before .before in
+    let k = s .args .packet .0 in
+    let p = s .pre in
+    repaged (λ ls. set ls k []) k [] _ _ _ _ _ (store-mir _ (s .args .words .now) (p .0)) (p .1) (p .3) (p .2)
+    (back-good 24 _ k (omega (arith, lists-length (s .args .sets .now), p .1 .many, p .3)) (p .2)) r refl
+    (omega (arith, m .more .ensures, n .page-count .ensures, ap length (list-at (s .args .sets .now) k)))
+
+pub give-back-spec : {M : Type 1} → statement M
+give-back-spec =
+    tie.close
+    (tie.spec
+    (λ c. search needs)
+    (λ c. search needs)
+    (λ c. search needs)
+    (λ c κs. search needs)
+    (λ c. search needs)
+    more-requires
+    (λ c. search needs)
+    (λ c κs. search needs)
+    (λ c. search needs)
+    (λ c. search needs)
+    returns)

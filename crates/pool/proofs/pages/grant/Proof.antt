@@ -1,0 +1,41 @@
+-- So many pages are free, and the packet had none.
+use mathlib.Core.Path.{refl, ap}
+use mathlib.Core.List.{List, map}
+use Prim.Native.Nat.{ℕ}
+use native.Mathlib.Omega.{arith}
+use borrow.Author.Needs.{needs}
+use lib.ListN.{length, take, set}
+use lib.Seq.{length-take-le}
+use Rattle.rules.specs.Bits.{wordOf}
+use Rattle.rules.specs.Lists.{freeBelow}
+use Rattle.wellformed.specs.Pages.{grant-good}
+use Rattle.sets.specs.Views.{pagesOf}
+use Rattle.sets.specs.Lists.{lists-length}
+use Rattle.state.specs.Stores.{store-mir}
+use Rattle.pool.proofs.Paged.{repaged}
+use Rattle.pool.proofs.pages.grant.Statement.{statement}
+use Rattle.pool.proofs.pages.grant.Tie as tie
+
+fewer-requires : tie.Need-fewer-requires
+unfolding wordOf
+fewer-requires c κs =
+    let p = c .before .before .before .pre in
+    omega (arith, p .1 .free, p .2 .few)
+
+returns : tie.Need-returns
+unfolding wordOf
+returns c =
+    let g = c .before .before .granted .ensures in
+    let f = c .before .before .before .before in
+    let s = f .before .before .before .before in
+    let p = s .pre in
+    let k = s .args .packet .0 in
+    let need = s .args .need in (
+      g .0,
+      repaged (λ ls. set ls k (take need (freeBelow 24 ls))) k _ _ _ _ _ _ (store-mir _ (s .args .words .now) (p .0)) (p .1) (p .2 .number) (p .2 .good)
+          (grant-good 24 _ k (omega (arith, lists-length (s .args .sets .now), p .1 .many, p .2 .number)) (p .2 .good) need (p .2 .short)) (g .1) refl
+          (omega (arith, f .fewer .ensures, p .1 .free, p .2 .few, length-take-le need (freeBelow 24 (map pagesOf (s .args .sets .now))) (p .2 .few), ap (λ (l : List ℕ). length l) (p .2 .none))),
+    )
+
+pub grant-spec : {M : Type 1} → statement M
+grant-spec = tie.close (tie.spec (λ c. search needs) fewer-requires (λ c. search needs) (λ c κs. search needs) (λ c. search needs) (λ c. search needs) returns)

@@ -1,0 +1,56 @@
+// Which pages are free: MIR keeps their number, and it changes with the page sets.
+use sets::Packet;
+use state::MIR;
+ghost use mathlib.Core.Path.{_≡_};
+ghost use mathlib.Core.List.{List, [], map};
+ghost use Prim.Native.Nat.{ℕ, _+_, _-_, _*_, _≤_, _<_};
+ghost use lib.ListN.{length, take, set};
+ghost use Rattle.rules.specs.Lists.{freeBelow};
+ghost use Rattle.rules.specs.WellFormed.{GoodPages};
+ghost use Rattle.sets.specs.Views.{pagesOf};
+ghost use Rattle.state.specs.View.{figures, Kept};
+ghost use Rattle.state.specs.Promise.{SetsIn};
+ghost use Rattle.pool.specs.Pages.{Grantable, Repages};
+
+// How many pages are free.
+pub fn free_count(words: &[u16]) -> u32
+    requires { ⌜ length (now words) ≡ 32 ⌝ }
+    ensures { λ r. ⌜ ((s : List ℕ) → SetsIn (figures (now (words .entry))) s → r ≡ length (freeBelow 24 (map pagesOf s))) ⌝ }
+{
+    bits::high_byte(words[MIR]) as u32
+}
+
+// MIR with so many free pages less, and more: their number is its high byte.
+fn fewer(mir: u16, pages: u32) -> u16
+    requires { ⌜ 256 * pages ≤ mir ⌝ }
+    ensures { λ r. ⌜ r ≡ mir - 256 * pages ⌝ }
+{
+    mir - 256 * pages as u16
+}
+
+fn more(mir: u16, pages: u32) -> u16
+    requires { ⌜ mir + 256 * pages < 65536 ⌝ }
+    ensures { λ r. ⌜ r ≡ mir + 256 * pages ⌝ }
+{
+    mir + 256 * pages as u16
+}
+
+// The packet, which has none, gets the `need` lowest free pages, which are returned.
+pub fn grant(words: &mut [u16], sets: &mut [u32], packet: Packet, need: u32) -> u32
+    requires { ⌜ Kept (now words) × SetsIn (figures (now words)) (now sets) × Grantable (packet .0) need (map pagesOf (now sets)) ⌝ }
+    ensures pages { λ r. ⌜ pagesOf r ≡ take need (freeBelow 24 (map pagesOf (now (sets .entry)))) ⌝ }
+    ensures given { λ r. ⌜ Repages (λ ls. set ls (packet .0) (take need (freeBelow 24 ls))) (now (words .entry)) (now (sets .entry)) (now (words .exit)) (now (sets .exit)) ⌝ }
+{
+    words[MIR] = fewer(words[MIR], need);
+    sets::granted(sets, packet, need)
+}
+
+// The packet's pages are free again.
+pub fn give_back(words: &mut [u16], sets: &mut [u32], packet: Packet)
+    requires { ⌜ Kept (now words) × SetsIn (figures (now words)) (now sets) × GoodPages 24 (map pagesOf (now sets)) × (packet .0 < 24) ⌝ }
+    ensures { λ _. ⌜ Repages (λ ls. set ls (packet .0) []) (now (words .entry)) (now (sets .entry)) (now (words .exit)) (now (sets .exit)) ⌝ }
+{
+    let pages = sets::page_count(sets[packet.0 as usize]);
+    words[MIR] = more(words[MIR], pages);
+    sets::released(sets, packet);
+}

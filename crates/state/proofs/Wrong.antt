@@ -1,0 +1,110 @@
+-- Records with one wrong figure, computed: none is in order, so every entry that promises `Answers` gives 16. RX has packet 0 with pages 0 and 1, TX packet 17 with page 2.
+use mathlib.Core.Path.{_≡_, refl, ap}
+use mathlib.Core.List.{List, [], _∷_, _++_}
+use Prim.Native.Nat.{ℕ}
+use native.Mathlib.Omega.{arith}
+use lib.ListN.{set, replicate}
+use Rattle.rules.specs.Bits.{bit, flag, wordOf}
+use Rattle.rules.specs.Lists.{member, some?, owned, unless, freeBelow}
+use Rattle.rules.specs.Tests.{above, ascends, allBelow, apart, noneOwned, pagesGood, queueGood, queuesGood, numbersGood, formed}
+use Rattle.rules.specs.Step.{Input}
+use Rattle.wellformed.specs.Fit.{formed-decides}
+use Rattle.sets.specs.Views.{pagesOf, bitsBelow}
+use Rattle.sets.specs.Members.{setOf}
+use Rattle.state.specs.declared.Answer.the-variants.{Damaged}
+use Rattle.state.specs.declared.Returned.{Returned}
+use Rattle.state.specs.View.{figures, poolIn, view}
+use Rattle.state.specs.Promise.{Ready}
+use Rattle.state.specs.Entry.{Answers}
+use Rattle.state.specs.Counted.{FullCount}
+
+abbrev words : List ℕ
+words =
+    0 ∷ 0 ∷ 0 ∷ 0 ∷ 0x1518 ∷ 0x3300 ∷ 1 ∷ 0x3300 ∷ 1 ∷ 0 ∷ 0 ∷ 0 ∷ 0 ∷ 4 ∷ 0 ∷ 0
+    ∷ 0 ∷ 0x8000 ∷ 0 ∷ 0 ∷ 0 ∷ 0 ∷ 0 ∷ 0 ∷ 0 ∷ 0 ∷ 0 ∷ 0 ∷ 1 ∷ 0 ∷ 0 ∷ 2 ∷ []
+
+abbrev sets : List ℕ
+sets = 3 ∷ (replicate 16 0 ++ (4 ∷ replicate 6 0))
+
+abbrev queues : List ℕ
+queues = (0 ∷ replicate 23 0) ++ ((17 ∷ replicate 23 0) ++ replicate 24 0)
+
+-- its figures are those of a full count
+pub right : FullCount (figures words) (poolIn (figures words) sets queues)
+unfolding pagesOf bitsBelow bit freeBelow owned member unless wordOf setOf
+right = record {
+  rx = refl;
+  tx = refl;
+  completion = refl;
+  mir = refl;
+  inRx = record { lower = refl; upper = refl };
+  inTx = record { lower = refl; upper = refl };
+}
+
+-- and it is in order
+pub ready : Ready words sets queues
+unfolding formed pagesGood ascends above allBelow noneOwned queuesGood queueGood apart numbersGood some? flag pagesOf bitsBelow bit freeBelow owned member unless wordOf setOf
+ready = record {
+  sound = record {
+    kept = record {
+      whole = refl;
+      fixed = record { bankHigh = refl; reservedHigh = refl; latched = refl; maskLow = refl };
+      blank = record { none15 = refl; none16 = refl; none18 = refl; none20 = refl; none21 = refl; none23 = refl };
+    };
+    queues = record {
+      long = refl;
+      rx = record { many = refl; fits = omega arith; same = refl };
+      tx = record { many = refl; fits = omega arith; same = refl };
+      completion = record { many = refl; fits = omega arith; same = refl };
+      inRx = right .inRx;
+      inTx = right .inTx;
+    };
+    sets = record { many = refl; free = right .mir };
+  };
+  well = formed-decides 24 (view words sets queues []) .sound refl;
+}
+
+-- The record with word `at` another one gets 16, whatever the input and whatever the memory.
+abbrev Gets16 : ℕ → ℕ → Type 0
+Gets16 at x =
+    (i : Input) (mem out : List ℕ) (y : Returned) (mem′ out′ : List ℕ)
+    → Answers i (record { words = set words at x }) (record { sets = sets }) (record { slots = queues }) mem out y mem′ out′ → y .answer ≡ Damaged
+
+refused : (at x : ℕ) → (Ready (set words at x) sets queues → ⊥) → Gets16 at x
+refused at x n i mem out y mem′ out′ a = ap (λ (z : Returned). z .answer) (a .broken (λ o. n (o .ready)) .same)
+
+-- one page less is free, and one more; or MIR does not say that there are 24
+pub one-free-less : Gets16 4 0x1418
+unfolding pagesOf bitsBelow bit freeBelow owned member unless wordOf
+one-free-less = refused 4 0x1418 (λ o. let e : 0x1418 ≡ 0x1518 = o .sound .sets .free in omega (arith, e))
+
+pub one-free-more : Gets16 4 0x1618
+unfolding pagesOf bitsBelow bit freeBelow owned member unless wordOf
+one-free-more = refused 4 0x1618 (λ o. let e : 0x1618 ≡ 0x1518 = o .sound .sets .free in omega (arith, e))
+
+pub another-size : Gets16 4 0x1517
+unfolding pagesOf bitsBelow bit freeBelow owned member unless wordOf
+another-size = refused 4 0x1517 (λ o. let e : 0x1517 ≡ 0x1518 = o .sound .sets .free in omega (arith, e))
+
+-- packet 0 is in RX and its bit is clear; packet 1 is not, and its bit is set
+pub rx-bit-clear : Gets16 28 0
+unfolding setOf
+rx-bit-clear = refused 28 0 (λ o. let e : _≡_ {A = ℕ} 0 1 = o .sound .queues .inRx .lower in omega (arith, e))
+
+pub rx-bit-set : Gets16 28 3
+unfolding setOf
+rx-bit-set = refused 28 3 (λ o. let e : _≡_ {A = ℕ} 3 1 = o .sound .queues .inRx .lower in omega (arith, e))
+
+-- a bit of no packet is set
+pub rx-bit-30 : Gets16 29 0x4000
+unfolding setOf
+rx-bit-30 = refused 29 0x4000 (λ o. let e : _≡_ {A = ℕ} 0x4000 0 = o .sound .queues .inRx .upper in omega (arith, e))
+
+-- the same of packet 17 in TX, and of packet 0, which is not
+pub tx-bit-clear : Gets16 31 0
+unfolding setOf
+tx-bit-clear = refused 31 0 (λ o. let e : _≡_ {A = ℕ} 0 2 = o .sound .queues .inTx .upper in omega (arith, e))
+
+pub tx-bit-set : Gets16 30 1
+unfolding setOf
+tx-bit-set = refused 30 1 (λ o. let e : _≡_ {A = ℕ} 1 0 = o .sound .queues .inTx .lower in omega (arith, e))
