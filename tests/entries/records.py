@@ -1,0 +1,54 @@
+"""A chip as the public entries take it, by document 01's rules and the places of crates/state/src/places.rt; and a case of crates/entry_runs with it."""
+
+
+class Record:
+    """The 32 words, the 24 page sets and the 72 bytes of queues of a chip, with every figure that W7 keeps. All registers not given are as after reset."""
+
+    def __init__(self, pages=(), rx=(), tx=(), completion=(), bank=0, packet=0, tcr=0):
+        """Of packets with these pages, given as (number, pages), and these queues."""
+        self.sets = [0] * 24
+        for number, own in pages:
+            self.sets[number] = bits(own)
+        free = 24 - len(set().union(*(own for _, own in pages)))
+        self.slots = [*rx, *[0] * (24 - len(rx)), *tx, *[0] * (24 - len(tx)), *completion, *[0] * (24 - len(completion))]
+        self.words = [0] * 32
+        self.words[0] = tcr
+        self.words[4] = 24 + 256 * free  # MIR
+        self.words[5] = 0x3300  # none reserved for transmit
+        self.words[6], self.words[8], self.words[9] = len(rx), len(tx), len(completion)
+        self.words[7] = 0x3300 + bank
+        self.words[13] = 4  # TX EMPTY
+        self.words[17] = 0x8000 + packet  # no allocation result
+        self.words[28], self.words[29] = bits(rx) % 65536, bits(rx) // 65536
+        self.words[30], self.words[31] = bits(tx) % 65536, bits(tx) // 65536
+
+    def word(self, place, value):
+        """The same with another word there."""
+        self.words[place] = value
+        return self
+
+    def set(self, packet, value):
+        """The same with another page set."""
+        self.sets[packet] = value
+        return self
+
+    def slot(self, place, value):
+        """The same with another byte in the queues."""
+        self.slots[place] = value
+        return self
+
+    def case(self, request):
+        """The 240 bytes."""
+        words = b"".join(value.to_bytes(2, "little") for value in self.words)
+        sets = b"".join(value.to_bytes(4, "little") for value in self.sets)
+        return words + sets + bytes(self.slots) + request
+
+
+def bits(numbers):
+    """Bit k for each k."""
+    return sum(1 << k for k in set(numbers))
+
+
+def request(kind, offset, value=0):
+    """Of kind 1 read byte, 2 read word, 3 write byte, 4 write word."""
+    return bytes([kind, offset, value % 256, value // 256, 0, 0, 0, 0])
