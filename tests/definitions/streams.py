@@ -1,46 +1,49 @@
-"""Writes an antt module with a theorem for each generated stream of records: the rules' replies are the independent program's lines.
+"""Writes an antt module with a theorem for each stream of records: what the rules tell of it is what the independent program tells.
 
-usage: streams.py RULES-SPECS PROGRAMS RECORDS FIRST-SEED STREAMS
+usage: streams.py SPECS TOLD FILE..   SPECS: of the rules; TOLD: the independent program; a FILE has the records of a stream from power-up
 """
+import os
 import re
 import subprocess
 import sys
 
-specs, programs, records, first, streams = sys.argv[1], sys.argv[2], *map(int, sys.argv[3:6])
+specs, program, files = sys.argv[1], sys.argv[2], sys.argv[3:]
+here = os.path.dirname(os.path.abspath(__file__))
 
-# every definition that has to unfold for the rules to compute, under a name with its module in front
-uses, unfolded = [], ["replies"]
-for module in re.findall(r"^pub mod (\S+)", open(f"{specs}/Lib.antt").read(), flags=re.M):
-    text = open(f"{specs}/{module}.antt").read()
-    names = re.findall(r"^unfoldable pub (\S+) :", text, flags=re.M)
-    unfolded += [f"{module}·{name}" for name in names]
-    if names:
-        uses.append(f"use Rattle.rules.specs.{module}.{{{', '.join(f'{name} as {module}·{name}' for name in names)}}}")
 
-print(
-    "use mathlib.Core.Path.{_≡_, refl}",
-    "use mathlib.Core.List.{List, [], _∷_}",
-    "use Prim.Native.Nat.{ℕ, zero, suc, _+_, _*_}",
-    "use lib.ListN.{take, drop}",
-    "use Rattle.rules.specs.Bench.{Bench, started}",
-    *uses,
-    "",
-    "-- the reply to each record, as number * 65536 + value",
-    "replies : ℕ → List ℕ → Bench → List ℕ",
-    "replies zero input b = []",
-    "replies (suc n) input b =",
-    "    let a = Bench·answer (Bench·eventOf (take 8 input)) b in (a .reply .number * 65536 + a .reply .value) ∷ replies n (drop 8 input) (a .after)",
-    sep="\n",
-)
+def unfoldable(path):
+    """The definitions of a module that have to unfold for it to compute."""
+    return re.findall(r"^unfoldable pub (\S+) :", open(path).read(), flags=re.M)
 
 
 def numbers(values):
     return " ∷ ".join([*map(str, values), "[]"])
 
 
-for seed in range(first, first + streams):
-    stream = subprocess.run([f"{programs}/generate", str(seed), str(records)], stdout=subprocess.PIPE, check=True).stdout
-    lines = subprocess.run([f"{programs}/independent"], input=stream, stdout=subprocess.PIPE, check=True).stdout.decode().splitlines()
-    expected = [int(answer) * 65536 + int(value, 16) for _, answer, value in map(str.split, lines)]
-    print(f"\nstream-{seed} : replies {records} ({numbers(stream)}) started ≡ {numbers(expected)}")
-    print(f"unfolding {' '.join(unfolded)}\nstream-{seed} = refl")
+def expected(records):
+    """What the program `told` prints for the records, as one list of numbers."""
+    lines = subprocess.run([program], input=records, stdout=subprocess.PIPE, check=True).stdout.decode().splitlines()
+    *lines, registers, pool, output, memory = map(str.split, lines)
+    for _, answer, value, line, state, *sums_and_bytes in lines:
+        yield from (int(answer), int(value, 16), int(line), int(state))
+        yield from map(int, sums_and_bytes[:2])
+        yield from bytes.fromhex("".join(sums_and_bytes[2:]))
+    yield from map(int, registers[1:] + pool[1:])
+    yield from bytes.fromhex(output[1] + memory[1])
+
+
+# every definition that has to unfold, under a name with its module in front
+modules = [("rules", name, f"{specs}/{name}.antt") for name in re.findall(r"^pub mod (\S+)", open(f"{specs}/Lib.antt").read(), flags=re.M)]
+uses, unfolded = [], []
+for crate, module, path in [*modules, ("streams·specs", "Told", f"{here}/Told.module")]:
+    names = unfoldable(path)
+    unfolded += [f"{module}·{name}" for name in names]
+    if names:
+        uses.append(f"use Rattle.{crate}.specs.{module}.{{{', '.join(f'{name} as {module}·{name}' for name in names)}}}")
+
+print("use mathlib.Core.Path.{_≡_, refl}", "use mathlib.Core.List.{[], _∷_}", "use Rattle.streams.specs.Told.{told}", *uses, sep="\n")
+for path in files:
+    name = os.path.basename(path)
+    records = open(path, "rb").read()
+    print(f"\n{name} : told {len(records) // 8} ({numbers(records)}) ≡ {numbers(expected(records))}")
+    print(f"unfolding {' '.join(unfolded)}\n{name} = refl")

@@ -48,7 +48,7 @@ impl Gathered {
         self.len == 0
     }
 
-    fn as_slice(&self) -> &[u8] {
+    pub fn as_slice(&self) -> &[u8] {
         &self.bytes[..self.len]
     }
 

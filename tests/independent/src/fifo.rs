@@ -16,6 +16,11 @@ impl Fifo {
         self.entries[0]
     }
 
+    /// The numbers in it, head first.
+    pub fn entries(&self) -> impl Iterator<Item = PacketNumber> + '_ {
+        self.entries.iter().copied().flatten()
+    }
+
     pub fn len(&self) -> usize {
         self.len
     }

@@ -6,15 +6,18 @@ pub mod address;
 pub mod bench;
 pub mod chip;
 pub mod coverage;
+pub mod covering;
 pub mod fifo;
 pub mod frame;
 pub mod generator;
 pub mod memory;
 pub mod mmu;
+pub mod places;
 pub mod random;
 pub mod refusal;
 pub mod registers;
 pub mod send;
+pub mod told;
 
 #[cfg(test)]
 mod tests;

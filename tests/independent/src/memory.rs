@@ -144,6 +144,11 @@ impl Default for Memory {
 }
 
 impl Memory {
+    /// All of it, page after page.
+    pub fn bytes(&self) -> &[u8] {
+        &self.0
+    }
+
     pub fn byte(&self, pages: &[PageNumber], address: PacketAddress) -> u8 {
         self.0[Self::place(pages, address)]
     }

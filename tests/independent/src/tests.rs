@@ -11,6 +11,7 @@ use crate::memory::PacketNumber;
 use crate::refusal::Refusal;
 use crate::registers::Width::{Byte, Word};
 use crate::send::{SendEnd, OUTPUT_SIZE};
+use crate::told::tell;
 
 const RX: u16 = Pointer::RECEIVE | Pointer::AUTO_INCREMENT | Pointer::READ;
 const LOAD: u16 = Pointer::AUTO_INCREMENT;
@@ -400,4 +401,28 @@ fn streams_meet_every_answer() {
     }
     assert_eq!(answers, (0..=14).chain([17]).collect());
     assert_eq!(arrivals, (0..=5).collect());
+}
+
+/// A good send to a group address: answer, value, line and the bytes put out.
+#[test]
+fn a_send_is_told_whole() {
+    let records = [
+        &[4, 0x0, 1, 0][..], // TXENA
+        &[3, 0xe, 2],
+        &[4, 0xc, 0, 4], // mask of TX EMPTY
+        &[3, 0x0, 0x20], // one page
+        &[4, 0x6, 2, 0x40],
+        &[4, 0x8, 12, 0], // byte count
+        &[4, 0x8, 0xab, 0xcd],
+        &[3, 0x0, 0xc0],
+        &[7, 0, 0, 0],
+    ];
+    let told = tell(&records.map(record));
+    let lines: Vec<Vec<&str>> = told.lines().map(|line| line.split(' ').collect()).collect();
+    assert_eq!(lines[1][..4], ["2", "0", "0000", "0"]);
+    assert_eq!(lines[2][..4], ["3", "0", "0000", "1"]);
+    assert_eq!(lines[8][..4], ["9", "0", "0006", "1"]);
+    assert_eq!(lines[8][7], "abcd00000000");
+    assert!(lines[11][1].starts_with("abcd00000000"));
+    assert!(lines[12][1].starts_with("09000c00abcd"));
 }
