@@ -11,7 +11,7 @@ use Rattle.rules.specs.WellFormed.{FormedAt}
 use Rattle.rules.specs.Registers.{Access, access}
 use Rattle.rules.specs.Receive.{Frame, arrive}
 use Rattle.rules.specs.Send.{Send, finish}
-use Rattle.rules.specs.Step.{Input, driver, frame, sent, serve, step}
+use Rattle.rules.specs.Step.{Input, driver, frame, sent, lent, serve, step}
 use Rattle.lists.specs.Facts.{Decides}
 use Rattle.wellformed.specs.Fit.{step-fit}
 use Rattle.wellformed.specs.Keeps.{keeps}
@@ -31,12 +31,12 @@ effectOf t = record { reply = t .reply; chip = t .chip }
 
 module _ (w s q mem : List ℕ) (o : InOrder w s q mem) where
   -- What makes the effect of a turn, and leaves its output, is right.
-  right : (i : Input) (out : List ℕ) (a : Answer) (w′ s′ q′ mem′ out′ : List ℕ) → Makes (effectOf (serve i (view w s q mem) out)) a w′ s′ q′ mem′
-      → out′ ≡ serve i (view w s q mem) out .output → Right (step i (view w s q mem) out) a w′ s′ q′ mem′ out′
-  right i out a w′ s′ q′ mem′ out′ p e =
+  right : (i : Input) (a : Answer) (w′ s′ q′ mem′ out′ : List ℕ) → Makes (effectOf (serve i (view w s q mem))) a w′ s′ q′ mem′
+      → out′ ≡ serve i (view w s q mem) .output → Right (step i (view w s q mem)) a w′ s′ q′ mem′ out′
+  right i a w′ s′ q′ mem′ out′ p e =
       let c = view w s q mem in
-      let same : step i c out ≡ serve i c out = step-fit 24 i c out (o .ready .well, o .full) in
-      let k = subst (λ (t : Turn). FormedAt 24 (t .chip) × (length (t .chip .memory) ≡ 6144)) same (keeps 24 c (o .ready .well, o .full) i out) in
+      let same : step i c ≡ serve i c = step-fit 24 i c (o .ready .well, o .full) in
+      let k = subst (λ (t : Turn). FormedAt 24 (t .chip) × (length (t .chip .memory) ≡ 6144)) same (keeps 24 c (o .ready .well, o .full) i) in
       record {
         chip = p .chip ∙ sym (ap (λ (t : Turn). t .chip) same);
         reply = p .reply ∙ sym (ap (λ (t : Turn). t .reply) same);
@@ -48,27 +48,27 @@ module _ (w s q mem : List ℕ) (o : InOrder w s q mem) where
       }
 
   -- Accesses and frames leave the output buffer, which they are not lent.
-  pub right-access : (i : Access) (a : Answer) (w′ s′ q′ mem′ : List ℕ) → Makes (access i (view w s q mem)) a w′ s′ q′ mem′ → Right (step (driver i) (view w s q mem) []) a w′ s′ q′ mem′ []
+  pub right-access : (i : Access) (a : Answer) (w′ s′ q′ mem′ : List ℕ) → Makes (access i (view w s q mem)) a w′ s′ q′ mem′ → Right (step (driver i) (view w s q mem)) a w′ s′ q′ mem′ []
   unfolding serve
-  right-access i a w′ s′ q′ mem′ p = right (driver i) [] a w′ s′ q′ mem′ [] p refl
+  right-access i a w′ s′ q′ mem′ p = right (driver i) a w′ s′ q′ mem′ [] p refl
 
-  pub right-frame : (f : Frame) (a : Answer) (w′ s′ q′ mem′ : List ℕ) → Makes (arrive f (view w s q mem)) a w′ s′ q′ mem′ → Right (step (frame f) (view w s q mem) []) a w′ s′ q′ mem′ []
+  pub right-frame : (f : Frame) (a : Answer) (w′ s′ q′ mem′ : List ℕ) → Makes (arrive f (view w s q mem)) a w′ s′ q′ mem′ → Right (step (frame f) (view w s q mem)) a w′ s′ q′ mem′ []
   unfolding serve
-  right-frame f a w′ s′ q′ mem′ p = right (frame f) [] a w′ s′ q′ mem′ [] p refl
+  right-frame f a w′ s′ q′ mem′ p = right (frame f) a w′ s′ q′ mem′ [] p refl
 
-  -- A send leaves the output that its turn has.
+  -- A send leaves the output that its turn has, of the buffer that it lends.
   pub right-send : (x : Send) (out : List ℕ) (a : Answer) (w′ s′ q′ mem′ out′ : List ℕ) → Makes (effectOf (finish x (view w s q mem) out)) a w′ s′ q′ mem′
-      → out′ ≡ finish x (view w s q mem) out .output → Right (step (sent x) (view w s q mem) out) a w′ s′ q′ mem′ out′
+      → out′ ≡ finish x (view w s q mem) out .output → Right (step (sent x out) (view w s q mem)) a w′ s′ q′ mem′ out′
   unfolding serve
-  right-send x out = right (sent x) out
+  right-send x out = right (sent x out)
 
 -- What is returned of a record that is not in order, and of one that is.
-pub damaged : (i : Input) (r : Registers) (p : Pages) (k : Queues) (mem out : List ℕ) → (InOrderBy r p k mem → ⊥) → Answers i r p k mem out (record { answer = Damaged; registers = r; pages = p; queues = k }) mem out
-damaged i r p k mem out n = record { done = λ o. absurd (n o); broken = λ o. record { same = refl; memory = refl; output = refl } }
+pub damaged : (i : Input) (r : Registers) (p : Pages) (k : Queues) (mem : List ℕ) → (InOrderBy r p k mem → ⊥) → Answers i r p k mem (record { answer = Damaged; registers = r; pages = p; queues = k }) mem (lent i)
+damaged i r p k mem n = record { done = λ o. absurd (n o); broken = λ o. record { same = refl; memory = refl; output = refl } }
 
-pub answered : (i : Input) (r : Registers) (p : Pages) (k : Queues) (mem out : List ℕ) (x : Returned) (mem′ out′ : List ℕ) → InOrderBy r p k mem
-    → Right (step i (view (r .words) (p .sets) (k .slots) mem) out) (x .answer) (x .registers .words) (x .pages .sets) (x .queues .slots) mem′ out′ → Answers i r p k mem out x mem′ out′
-answered i r p k mem out x mem′ out′ o t = record { done = λ q. t; broken = λ n. absurd (n o) }
+pub answered : (i : Input) (r : Registers) (p : Pages) (k : Queues) (mem : List ℕ) (x : Returned) (mem′ out′ : List ℕ) → InOrderBy r p k mem
+    → Right (step i (view (r .words) (p .sets) (k .slots) mem)) (x .answer) (x .registers .words) (x .pages .sets) (x .queues .slots) mem′ out′ → Answers i r p k mem x mem′ out′
+answered i r p k mem x mem′ out′ o t = record { done = λ q. t; broken = λ n. absurd (n o) }
 
 -- A test that says no, and one that says yes.
 pub not-in : {b : Bool} {P : Type 0} → Decides b P → not b ≡ true → P → ⊥

@@ -30,7 +30,7 @@ pub fn read(
     offset: u8,
 ) -> Answer
     requires { ⌜ InOrder (now words) (now sets) (now queues) (now memory) ⌝ }
-    ensures { λ a. ⌜ Right (rules.step (rules.driver (registers.read (widthOf width) offset)) (view (now (words .entry)) (now (sets .entry)) (now (queues .entry)) (now (memory .entry))) []) a (now (words .exit)) (now (sets .entry)) (now (queues .entry)) (now (memory .entry)) [] ⌝ }
+    ensures { λ a. ⌜ Right (rules.step (rules.driver (registers.read (widthOf width) offset)) (view (now (words .entry)) (now (sets .entry)) (now (queues .entry)) (now (memory .entry)))) a (now (words .exit)) (now (sets .entry)) (now (queues .entry)) (now (memory .entry)) [] ⌝ }
 {
     accesses::read(words, sets, queues, memory, width, offset)
 }
@@ -46,7 +46,7 @@ pub fn write(
     value: u16,
 ) -> Answer
     requires { ⌜ InOrder (now words) (now sets) (now queues) (now memory) ⌝ }
-    ensures { λ a. ⌜ Right (rules.step (rules.driver (registers.write (widthOf width) offset value)) (view (now (words .entry)) (now (sets .entry)) (now (queues .entry)) (now (memory .entry))) []) a (now (words .exit)) (now (sets .exit)) (now (queues .exit)) (now (memory .exit)) [] ⌝ }
+    ensures { λ a. ⌜ Right (rules.step (rules.driver (registers.write (widthOf width) offset value)) (view (now (words .entry)) (now (sets .entry)) (now (queues .entry)) (now (memory .entry)))) a (now (words .exit)) (now (sets .exit)) (now (queues .exit)) (now (memory .exit)) [] ⌝ }
 {
     accesses::write(words, sets, queues, memory, width, offset, value)
 }
@@ -60,7 +60,7 @@ pub fn accessed(
     a: Request,
 ) -> Answer
     requires { ⌜ InOrder (now words) (now sets) (now queues) (now memory) ⌝ }
-    ensures { λ x. ⌜ Right (rules.step (rules.driver (accessOf a)) (view (now (words .entry)) (now (sets .entry)) (now (queues .entry)) (now (memory .entry))) []) x (now (words .exit)) (now (sets .exit)) (now (queues .exit)) (now (memory .exit)) [] ⌝ }
+    ensures { λ x. ⌜ Right (rules.step (rules.driver (accessOf a)) (view (now (words .entry)) (now (sets .entry)) (now (queues .entry)) (now (memory .entry)))) x (now (words .exit)) (now (sets .exit)) (now (queues .exit)) (now (memory .exit)) [] ⌝ }
 {
     match a {
         Request::Read(width, offset) => read(words, sets, queues, memory, width, offset),
@@ -72,7 +72,7 @@ pub fn accessed(
 
 // An access of the driver, on any record.
 pub fn access(r: Registers, p: Pages, q: Queues, memory: &mut [u8], a: Request) -> Returned
-    ensures { λ x. ⌜ Answers (rules.driver (accessOf a)) r p q (now (memory .entry)) [] x (now (memory .exit)) [] ⌝ }
+    ensures { λ x. ⌜ Answers (rules.driver (accessOf a)) r p q (now (memory .entry)) x (now (memory .exit)) [] ⌝ }
 {
     let mut words = r.words;
     let mut sets = p.sets;

@@ -22,7 +22,7 @@ pub fn arrived(
     alignment: bool,
 ) -> Answer
     requires { ⌜ InOrder (now words) (now sets) (now queues) (now memory) ⌝ }
-    ensures { λ a. ⌜ Right (rules.step (rules.frame (frameOf (now (frame .entry)) «bad_crc» alignment)) (view (now (words .entry)) (now (sets .entry)) (now (queues .entry)) (now (memory .entry))) []) a (now (words .exit)) (now (sets .exit)) (now (queues .exit)) (now (memory .exit)) [] ⌝ }
+    ensures { λ a. ⌜ Right (rules.step (rules.frame (frameOf (now (frame .entry)) «bad_crc» alignment)) (view (now (words .entry)) (now (sets .entry)) (now (queues .entry)) (now (memory .entry)))) a (now (words .exit)) (now (sets .exit)) (now (queues .exit)) (now (memory .exit)) [] ⌝ }
 {
     receive::arrived(words, sets, queues, memory, frame, bad_crc, alignment)
 }
@@ -37,7 +37,7 @@ pub fn frame(
     bad_crc: bool,
     alignment: bool,
 ) -> Returned
-    ensures { λ x. ⌜ Answers (rules.frame (frameOf (now (bytes .entry)) «bad_crc» alignment)) r p q (now (memory .entry)) [] x (now (memory .exit)) [] ⌝ }
+    ensures { λ x. ⌜ Answers (rules.frame (frameOf (now (bytes .entry)) «bad_crc» alignment)) r p q (now (memory .entry)) x (now (memory .exit)) [] ⌝ }
 {
     let mut words = r.words;
     let mut sets = p.sets;

@@ -21,7 +21,7 @@ pub fn finished(
     deferral: u8,
 ) -> Answer
     requires { ⌜ InOrder (now words) (now sets) (now queues) (now memory) ⌝ }
-    ensures { λ a. ⌜ Right (rules.step (rules.sent (record { outcome = outcome; collisions = collisions; deferral = deferral })) (view (now (words .entry)) (now (sets .entry)) (now (queues .entry)) (now (memory .entry))) (now (out .entry))) a (now (words .exit)) (now (sets .exit)) (now (queues .exit)) (now (memory .exit)) (now (out .exit)) ⌝ }
+    ensures { λ a. ⌜ Right (rules.step (rules.sent (record { outcome = outcome; collisions = collisions; deferral = deferral }) (now (out .entry))) (view (now (words .entry)) (now (sets .entry)) (now (queues .entry)) (now (memory .entry)))) a (now (words .exit)) (now (sets .exit)) (now (queues .exit)) (now (memory .exit)) (now (out .exit)) ⌝ }
 {
     sending::finished(
         words,
@@ -46,7 +46,7 @@ pub fn send(
     collisions: u8,
     deferral: u8,
 ) -> Returned
-    ensures { λ x. ⌜ Answers (rules.sent (record { outcome = outcome; collisions = collisions; deferral = deferral })) r p q (now (memory .entry)) (now (out .entry)) x (now (memory .exit)) (now (out .exit)) ⌝ }
+    ensures { λ x. ⌜ Answers (rules.sent (record { outcome = outcome; collisions = collisions; deferral = deferral }) (now (out .entry))) r p q (now (memory .entry)) x (now (memory .exit)) (now (out .exit)) ⌝ }
 {
     let mut words = r.words;
     let mut sets = p.sets;

@@ -112,5 +112,5 @@ module _ (n : ℕ) (c : Chip) (w : FormedAt n c) where
   number-when-page h = (number-free w h, ap some? (first-empty (c .pool .pages)))
 
 -- After each step from a well-formed chip.
-pub accounted-after : (n : ℕ) (i : Input) (c : Chip) (out : List ℕ) → Fits n c → (p : ℕ) → p < size (stepOf n i c out .chip) → IsFree (stepOf n i c out .chip) p ⊎ InOne (stepOf n i c out .chip) p
-accounted-after n i c out w = accounted n (stepOf n i c out .chip) (keeps n c w i out .0)
+pub accounted-after : (n : ℕ) (i : Input) (c : Chip) → Fits n c → (p : ℕ) → p < size (stepOf n i c .chip) → IsFree (stepOf n i c .chip) p ⊎ InOne (stepOf n i c .chip) p
+accounted-after n i c w = accounted n (stepOf n i c .chip) (keeps n c w i .0)

@@ -1,6 +1,6 @@
 -- The ledger balances: the free pages with the pages granted are n with the pages given back, for any n up to 128.
-use mathlib.Core.Path.{_≡_, refl, ap, ap₂, sym, _∙_}
-use mathlib.Core.List.{List, [], _∷_, map}
+use mathlib.Core.Path.{_≡_, refl, ap, ap₂, sym, subst, _∙_}
+use mathlib.Core.List.{List, [], _∷_, _++_, map}
 use Prim.Native.Nat.{ℕ, zero, suc, _+_, _≤_}
 use native.Mathlib.Omega.{arith}
 use lib.ListN.{length, getD, set, replicate, length-set, length-replicate, List·getD-map}
@@ -10,7 +10,7 @@ use Rattle.lists.specs.Facts.{map-set}
 use Rattle.wellformed.specs.Count.{total, total-set, free-and-total}
 use Rattle.wellformed.specs.Fit.{Fits}
 use Rattle.wellformed.specs.Keeps.{keeps, powered-fits}
-use Rattle.laws.specs.Ledger.{Entry, grants, returns, restarts, entriesOf, Ledger, blank, entered, enteredAll, ledgerFrom}
+use Rattle.laws.specs.Ledger.{Entry, grants, returns, restarts, just, entriesOf, Resets, Ledger, blank, entered, enteredAll, ledgerFrom}
 use Rattle.laws.specs.Told.{Applies, AllApply, told}
 
 -- All lists emptied: how many pages there are, and how long each list is.
@@ -55,27 +55,65 @@ entries-balanced n (e ∷ es) a b l z p h =
     let w = entry-balanced n e a (p .0) l z (p .1) h in
     entries-balanced n es (p .0) b (entered n e l) (w .1) (p .2) (w .0)
 
+-- A ledger that starts anew balances where no packet has pages.
+pub blank-balanced : (n : ℕ) → Balanced (replicate n []) (blank n)
+blank-balanced n = record { holds = lengths-none n; even = omega (arith, total-none n) }
+
 -- The chip after inputs that are run one after another is well formed.
-pub run-fits : (n : ℕ) (inputs : List Input) (c : Chip) (out : List ℕ) → Fits n c → Fits n (runOf n inputs c out .chip)
+pub run-fits : (n : ℕ) (inputs : List Input) (c : Chip) → Fits n c → Fits n (runOf n inputs c .chip)
 unfolding runOf
-run-fits n [] c out w = w
-run-fits n (i ∷ is) c out w = run-fits n is (stepOf n i c out .chip) (stepOf n i c out .output) (keeps n c w i out)
+run-fits n [] c w = w
+run-fits n (i ∷ is) c w = run-fits n is (stepOf n i c .chip) (keeps n c w i)
 
--- Over any list of inputs, from a chip and a ledger that balance.
 module _ (n : ℕ) (small : n ≤ 128) where
-  run-balanced : (inputs : List Input) (c : Chip) (out : List ℕ) (l : Ledger) → Fits n c → Balanced (c .pool .pages) l → Balanced (runOf n inputs c out .chip .pool .pages) (ledgerFrom n inputs c out l)
-  unfolding runOf ledgerFrom
-  run-balanced [] c out l w h = h
-  run-balanced (i ∷ is) c out l w h =
-      let t = stepOf n i c out in
-      run-balanced is (t .chip) (t .output) (enteredAll n (entriesOf i c t) l) (keeps n c w i out)
-      (entries-balanced n (entriesOf i c t) (c .pool .pages) (t .chip .pool .pages) l (w .0 .count) (told n small c w i out) h)
+  -- what is free and what was granted are n and what was given back
+  abbrev pub Even : Chip → Ledger → Type 0
+  Even c l = length (free c) + l .granted ≡ n + l .back
 
-  -- For every history: free pages and pages granted are n and pages given back.
-  pub balances : (inputs : List Input) (out : List ℕ)
-      → length (free (runOf n inputs (powered n) out .chip)) + ledgerFrom n inputs (powered n) out (blank n) .granted ≡ n + ledgerFrom n inputs (powered n) out (blank n) .back
-  balances inputs out =
-      let c = runOf n inputs (powered n) out .chip in
-      let w = run-fits n inputs (powered n) out (powered-fits n) in
-      let b = run-balanced inputs (powered n) out (blank n) (powered-fits n) (record { holds = lengths-none n; even = omega (arith, total-none n) }) in
-      omega (arith, b .even, free-and-total (length (c .pool .pages)) (c .pool .pages) (rw (w .0 .count) (w .0 .pages)), w .0 .count)
+  free-even : (c : Chip) (l : Ledger) → Fits n c → Balanced (c .pool .pages) l → Even c l
+  free-even c l w b = omega (arith, b .even, free-and-total (length (c .pool .pages)) (c .pool .pages) (rw (w .0 .count) (w .0 .pages)), w .0 .count)
+
+  -- Over any list of inputs, from a chip and a ledger that balance.
+  run-balanced : (inputs : List Input) (c : Chip) (l : Ledger) → Fits n c → Balanced (c .pool .pages) l → Balanced (runOf n inputs c .chip .pool .pages) (ledgerFrom n inputs c l)
+  unfolding runOf ledgerFrom
+  run-balanced [] c l w h = h
+  run-balanced (i ∷ is) c l w h =
+      let t = stepOf n i c in
+      run-balanced is (t .chip) (enteredAll n (entriesOf i c t) l) (keeps n c w i)
+      (entries-balanced n (entriesOf i c t) (c .pool .pages) (t .chip .pool .pages) l (w .0 .count) (told n small c w i) h)
+
+  -- For every history from power-up.
+  pub balances : (inputs : List Input) → Even (runOf n inputs (powered n) .chip) (ledgerFrom n inputs (powered n) (blank n))
+  balances inputs =
+      free-even (runOf n inputs (powered n) .chip) _ (run-fits n inputs (powered n) (powered-fits n)) (run-balanced inputs (powered n) (blank n) (powered-fits n) (blank-balanced n))
+
+  -- After a soft or MMU reset no packet has pages, and the ledger is blank, whatever it said before.
+  reset-empties : (i : Input) (c : Chip) → Fits n c → Resets n i c → stepOf n i c .chip .pool .pages ≡ replicate n []
+  reset-empties i c w r =
+      let t = stepOf n i c in
+      let a : AllApply n (just restarts) (c .pool .pages) (t .chip .pool .pages) = rw r at (told n small c w i) in
+      a .2 ∙ a .1
+
+  reset-blanks : (i : Input) (c : Chip) (l : Ledger) → Resets n i c → enteredAll n (entriesOf i c (stepOf n i c)) l ≡ blank n
+  unfolding enteredAll entered
+  reset-blanks i c l r = ap (λ (es : List Entry). enteredAll n es l) r
+
+  -- So the ledger balances after such a step and any inputs behind it, from any well-formed chip and whatever the ledger said.
+  pub balances-since : (i : Input) (after : List Input) (c : Chip) (l : Ledger) → Fits n c → Resets n i c → Even (runOf n (i ∷ after) c .chip) (ledgerFrom n (i ∷ after) c l)
+  unfolding runOf ledgerFrom
+  balances-since i after c l w r =
+      let d = stepOf n i c .chip in
+      let k = keeps n c w i in
+      let even = free-even (runOf n after d .chip) _ (run-fits n after d k) (run-balanced after d (blank n) k (subst (λ (ls : List (List ℕ)). Balanced ls (blank n)) (sym (reset-empties i c w r)) (blank-balanced n))) in
+      subst (λ (m : Ledger). Even (runOf n after d .chip) (ledgerFrom n after d m)) (sym (reset-blanks i c l r)) even
+
+-- What came before: a run and its ledger go on from where they were.
+pub run-joined : (n : ℕ) (before after : List Input) (c : Chip) → runOf n (before ++ after) c .chip ≡ runOf n after (runOf n before c .chip) .chip
+unfolding runOf
+run-joined n [] after c = refl
+run-joined n (i ∷ is) after c = run-joined n is after (stepOf n i c .chip)
+
+pub ledger-joined : (n : ℕ) (before after : List Input) (c : Chip) (l : Ledger) → ledgerFrom n (before ++ after) c l ≡ ledgerFrom n after (runOf n before c .chip) (ledgerFrom n before c l)
+unfolding runOf ledgerFrom
+ledger-joined n [] after c l = refl
+ledger-joined n (i ∷ is) after c l = ledger-joined n is after (stepOf n i c .chip) (enteredAll n (entriesOf i c (stepOf n i c)) l)

@@ -1,5 +1,6 @@
 -- The page ledger: what a driver can know of the pages granted and given back, counted since power-up or the last soft or MMU reset.
 -- Nothing here looks at a page list or a free count: only at registers, at the ends of RX and TX (which a driver knows from what it enqueued and drained), at lengths and at replies.
+use mathlib.Core.Path.{_≡_}
 use mathlib.Core.Bool.{cond}
 use mathlib.Core.List.{List, [], _∷_}
 use Prim.Native.Nat.{ℕ, _+_}
@@ -71,11 +72,15 @@ unfoldable pub inputEntries : Input → Chip → ℕ → Chip → List Entry
 inputEntries (driver (read w o)) c v d = []
 inputEntries (driver (write w o x)) c v d = writeEntries (registerAt (c .regs .numbers .bank) o) x c d
 inputEntries (frame f) c v d = cond (eqb v 0) (just (grants (lastOf (d .pool .rx)) (needed (c .regs) (length (f .bytes))))) []
-inputEntries (sent s) c v d = cond (autoRelease (good (c .regs .sending .tcr) (s .outcome)) (c .regs)) (just (returns (headOf (c .pool .tx)))) []
+inputEntries (sent s out) c v d = cond (autoRelease (good (c .regs .sending .tcr) (s .outcome)) (c .regs)) (just (returns (headOf (c .pool .tx)))) []
 
 -- A refusal leaves the ledger.
 unfoldable pub entriesOf : Input → Chip → Turn → List Entry
 entriesOf i c t = cond (eqb (t .reply .number) 0) (inputEntries i c (t .reply .value) (t .chip)) []
+
+-- the step is a soft reset or an MMU reset: the ledger starts anew by it
+abbrev pub Resets : ℕ → Input → Chip → Type 0
+Resets n i c = entriesOf i c (stepOf n i c) ≡ just restarts
 
 -- pages granted and given back, and what each packet number holds, remembered from its grant
 pub record Ledger : Type 0 where
@@ -97,6 +102,6 @@ enteredAll n [] l = l
 enteredAll n (e ∷ es) l = enteredAll n es (entered n e l)
 
 -- the ledger after inputs that are run one after another from a chip
-unfoldable pub ledgerFrom : ℕ → List Input → Chip → List ℕ → Ledger → Ledger
-ledgerFrom n [] c out l = l
-ledgerFrom n (i ∷ is) c out l = let t = stepOf n i c out in ledgerFrom n is (t .chip) (t .output) (enteredAll n (entriesOf i c t) l)
+unfoldable pub ledgerFrom : ℕ → List Input → Chip → Ledger → Ledger
+ledgerFrom n [] c l = l
+ledgerFrom n (i ∷ is) c l = let t = stepOf n i c in ledgerFrom n is (t .chip) (enteredAll n (entriesOf i c t) l)

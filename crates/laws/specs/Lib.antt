@@ -7,6 +7,7 @@ pub mod Refusals
 -- Demand 2: each page is free or in one packet, and the free count is accounted for. (`wellformed` has that each step keeps a chip well formed.)
 pub mod Accounted
 pub mod Ledger
+pub mod Reading
 pub mod Told
 pub mod Balance
 -- Demand 3: loading and reception do not disturb each other.
@@ -17,5 +18,8 @@ pub mod Exchange
 pub mod Loads
 pub mod Merge
 pub mod Needed
--- Demands 2 and 3 at the chip of document 01.
+-- Demand 2 at the chip of document 01.
 pub mod Theorems
+pub mod Restarts
+-- Demand 3 is about something.
+pub mod Meanwhile

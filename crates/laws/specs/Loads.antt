@@ -12,9 +12,9 @@ use Rattle.laws.specs.Loading.{Clear, Load, toBank, toPacket, toPointer,
 use Rattle.laws.specs.Exchange.{exchange}
 
 -- Demand 3: "a run of bank selections and accesses to packet number, pointer and data (receive bit clear throughout, each data access on a packet allocated before the run)":
--- from the chip before the run, and the chip that it has come to
+-- from the chip before the run, and the chip that it has come to (after the last access the receive bit may be set)
 abbrev pub Loads : Chip → Chip → List Access → Type 0
-Loads start now [] = Clear now
+Loads start now [] = Unit {0}
 Loads start now (a ∷ rest) = Clear now × Load start now a × Loads start (access a now .chip) rest
 
 -- Of the chip before the run the packets count, and nothing else.
@@ -26,7 +26,7 @@ module _ (start other : Chip) (same : (k : ℕ) → allocated k start ≡ true �
   load-from now a (toData e k) = toData e (same (now .regs .numbers .packet) k)
 
   loads-from : (loads : List Access) (now : Chip) → Loads start now loads → Loads other now loads
-  loads-from [] now l = l
+  loads-from [] now l = tt
   loads-from (a ∷ rest) now l = (l .0, load-from now a (l .1), loads-from rest (access a now .chip) (l .2))
 
 -- After a load the rest is a run from there.
@@ -48,7 +48,7 @@ module _ (f : Frame) where
       go (toData e k) = toData e k
 
   pub loads-after-frame : (loads : List Access) (c : Chip) → Loads c c loads → Loads (arrive f c .chip) (arrive f c .chip) loads
-  loads-after-frame [] c l = rw (frame-is f c) l
+  loads-after-frame [] c l = tt
   loads-after-frame (a ∷ rest) c l =
       let d = arrive f c .chip in
       let clear : Clear d = rw (frame-is f c) (l .0) in

@@ -1,4 +1,4 @@
--- Why `Loads` asks what it asks: without any one of its three conditions an access is answered by its order with a frame. Computed on chips with 24 pages.
+-- Why `Loads` asks what it asks: without any one of its three conditions an access is answered by its order with a frame. Computed on chips with 24 pages. (`Meanwhile` has loads that meet them.)
 use mathlib.Core.Path.{_≡_, refl}
 use mathlib.Core.Bool.{false}
 use mathlib.Core.List.{List, [], _∷_}
@@ -7,16 +7,15 @@ use lib.ListN.{replicate}
 use Rattle.rules.specs.Bits.{bit, setBit, clearBit, flag, lowByte, highByte, wordOf}
 use Rattle.rules.specs.Lists.{member, some?, owned, unless, freeBelow, firstEmpty}
 use Rattle.rules.specs.Chip.{Chip, powerUp}
-use Rattle.rules.specs.Fields.{setRcr, setPointer, setBank, setPages, inRegisters, inPool}
+use Rattle.rules.specs.Fields.{setRcr, setPointer, setBank, inRegisters}
 use Rattle.rules.specs.Answers.{Reply, done, refusal}
 use Rattle.rules.specs.Tests.{above, ascends, allBelow, apart, noneOwned, pagesGood, queueGood, queuesGood, numbersGood, formed, fit}
 use Rattle.rules.specs.Packet.{place, getBytes, putBytes}
 use Rattle.rules.specs.Crc.{crcBit, crcBits, crcFrom, crc, hash}
 use Rattle.rules.specs.Receive.{Frame, sameBytes, broadcast, group, inTable, accepted, dataLength, countOf, pagesFor, needed, valueFor, dropped, judge, groupBits, frameStatus, trailer, image, after, arrive}
-use Rattle.rules.specs.Data.{address, advance, next, ifPacket, against, oddFixed, past, ifOpen, valueOf, readData, writeData}
-use Rattle.rules.specs.Registers.{Access, read, write, byte, word, registerAt, misplaced, lanesAt, taken, merged, width, bytesOf, headOf, lowOnly, readRegister, writeRegister, access}
+use Rattle.rules.specs.Data.{address, advance, next, ifPacket, against, oddFixed, past, ifOpen, valueOf, readData}
+use Rattle.rules.specs.Registers.{Access, read, word, registerAt, misplaced, lanesAt, taken, width, headOf, readRegister, access}
 use Rattle.rules.specs.Step.{Input, driver, frame, serve, stepOf, runOf, run}
-use Rattle.laws.specs.Loading.{toBank, toPacket, toPointer, toData}
 use Rattle.laws.specs.Loads.{Loads}
 
 -- a chip that receives, with bank 2 selected and this pointer
@@ -30,7 +29,7 @@ arriving = record { bytes = replicate 64 0xff; badCrc = false; alignment = false
 -- the answers of a run on that chip
 unfoldable pub answers : ℕ → List Input → List Reply
 unfolding bit setBit clearBit flag lowByte highByte wordOf member some? owned unless freeBelow firstEmpty above ascends allBelow apart noneOwned pagesGood queueGood queuesGood numbersGood formed fit place getBytes putBytes crcBit crcBits crcFrom crc hash sameBytes broadcast group inTable accepted dataLength countOf pagesFor needed valueFor dropped judge groupBits frameStatus trailer image after arrive address advance next ifPacket against oddFixed past ifOpen valueOf readData registerAt misplaced lanesAt taken width headOf readRegister access serve stepOf runOf
-answers p inputs = run inputs (listening p) [] .replies
+answers p inputs = run inputs (listening p) .replies
 
 -- x answers the access where it comes before the frame, y where it comes after; the frame is stored and answered by 0 both times
 abbrev ByOrder : ℕ → Access → Reply → Reply → Type 0
@@ -50,11 +49,3 @@ packet-not-allocated = (refl, refl)
 pub another-register : ByOrder 0 (read word 4) record { number = 0; value = 0x8080 } record { number = 0; value = 0x0080 }
 unfolding answers
 another-register = (refl, refl)
-
--- And a driver that fills a packet does as asked: it selects bank 2, names packet 0, points to its address 0 with AUTO INCR and writes a word.
-abbrev holding : Chip
-holding = inPool (setPages ((0 ∷ []) ∷ replicate 23 [])) powerUp
-
-pub filling : Loads holding holding (write byte 0xe 2 ∷ write byte 2 0 ∷ write word 6 0x4000 ∷ write word 8 0x1234 ∷ [])
-unfolding answers lowOnly merged bytesOf writeData writeRegister
-filling = (refl, toBank refl, (refl, toPacket refl, (refl, toPointer refl, (refl, toData refl refl, refl))))

@@ -1,60 +1,93 @@
--- Demands 2 and 3 at the chip of document 01, with its 24 pages: what the modules before it prove for any size.
-use mathlib.Core.Path.{_≡_, ap, _∙_}
+-- Demands 2 and 3 at the chip of document 01, with its 24 pages: what the modules before it prove for any size, and how a driver reads the free count.
+use mathlib.Core.Path.{_≡_, refl, ap, ap₂, sym, subst, _∙_}
 use mathlib.Core.Logic.{_⊎_}
-use mathlib.Core.List.{List, map}
+use mathlib.Core.List.{List, [], _∷_, _++_}
 use Prim.Native.Nat.{ℕ, _+_, _*_, _≤_, _<_, _/_, _%_}
 use native.Mathlib.Omega.{arith}
 use lib.ListN.{length}
 use Rattle.rules.specs.Bits.{bit, highByte, wordOf}
 use Rattle.rules.specs.Chip.{Chip, size, free, powerUp}
-use Rattle.rules.specs.Answers.{doneWith, leaving}
-use Rattle.rules.specs.WellFormed.{WellFormed}
-use Rattle.rules.specs.Registers.{Access, byte, read, registerAt, misplaced, lanesAt, taken, readRegister, access}
-use Rattle.rules.specs.Step.{Input, driver, frame, serve, step, history}
-use Rattle.wellformed.specs.Fit.{step-fit}
+use Rattle.rules.specs.Fields.{setBank, inRegisters}
+use Rattle.rules.specs.Answers.{doneWith, did, leaving}
+use Rattle.rules.specs.Registers.{byte, word, read, write, registerAt, misplaced, lanesAt, taken, lowOnly, readRegister, writeRegister, access}
+use Rattle.rules.specs.Step.{Input, driver, serve, step, runOf, run, history}
+use Rattle.wellformed.specs.Fit.{Fits, step-fit}
 use Rattle.wellformed.specs.Count.{free-and-total}
 use Rattle.wellformed.specs.Keeps.{keeps, powered-fits}
 use Rattle.laws.specs.Accounted.{IsFree, InOne, accounted-after}
-use Rattle.laws.specs.Ledger.{Ledger, blank, ledgerFrom}
-use Rattle.rules.specs.Receive.{Frame}
-use Rattle.laws.specs.Loads.{Loads}
-use Rattle.laws.specs.Merge.{Merge, Merged, merging}
-use Rattle.laws.specs.Balance.{run-fits, balances}
+use Rattle.laws.specs.Ledger.{Ledger, Resets, ledgerFrom}
+use Rattle.laws.specs.Reading.{reads, ReadsFree, Balances, BalancesAlways}
+use Rattle.laws.specs.Balance.{run-fits, balances, balances-since, run-joined, ledger-joined}
 
--- A chip is well formed at power-up (`power-up-well` of wellformed), after each step from a well-formed one, and so throughout every history.
-pub step-well : (i : Input) (c : Chip) (out : List ℕ) → WellFormed c → length (c .memory) ≡ 6144 → WellFormed (step i c out .chip) × (length (step i c out .chip .memory) ≡ 6144)
-step-well i c out w m = keeps 24 c (w, m) i out
+-- well formed, with its 6,144 bytes: what refusal 16 asks of the chip of document 01
+abbrev pub Whole : Chip → Type 0
+Whole c = Fits 24 c
 
-pub history-well : (inputs : List Input) (out : List ℕ) → WellFormed (history inputs out .chip) × (length (history inputs out .chip .memory) ≡ 6144)
-history-well inputs out = run-fits 24 inputs powerUp out (powered-fits 24)
+-- A chip is so at power-up, after each step from one that is, and so throughout every run and every history.
+pub power-up-whole : Whole powerUp
+power-up-whole = powered-fits 24
+
+pub step-whole : (i : Input) (c : Chip) → Whole c → Whole (step i c .chip)
+step-whole i c w = keeps 24 c w i
+
+pub run-whole : (inputs : List Input) (c : Chip) → Whole c → Whole (run inputs c .chip)
+run-whole = run-fits 24
+
+pub history-whole : (inputs : List Input) → Whole (history inputs .chip)
+history-whole inputs = run-whole inputs powerUp power-up-whole
 
 -- After each step from a well-formed chip every page is free or in exactly one packet, at one place of its list.
-pub pages-accounted : (i : Input) (c : Chip) (out : List ℕ) → WellFormed c → length (c .memory) ≡ 6144 → (p : ℕ) → p < 24 → IsFree (step i c out .chip) p ⊎ InOne (step i c out .chip) p
-pages-accounted i c out w m p h = accounted-after 24 i c out (w, m) p (omega (arith, h, step-well i c out w m .0 .count))
+pub pages-accounted : (i : Input) (c : Chip) → Whole c → (p : ℕ) → p < 24 → IsFree (step i c .chip) p ⊎ InOne (step i c .chip) p
+pages-accounted i c w p h = accounted-after 24 i c w p (omega (arith, h, step-whole i c w .0 .count))
 
--- A byte read of MIR's high byte, bank 0 offset 9, answers 0 with the number of free pages, and changes nothing.
-pub mir-read : (c : Chip) (out : List ℕ) → WellFormed c → length (c .memory) ≡ 6144 → c .regs .numbers .bank ≡ 0 → step (driver (read byte 9)) c out ≡ leaving out (doneWith (length (free c)) c)
-unfolding serve access registerAt misplaced lanesAt bit readRegister taken wordOf highByte
-mir-read c out w m b =
-    let few : length (free c) ≤ 24 = omega (arith, free-and-total (size c) (c .pool .pages) (rw (w .count) (w .pages)), w .count) in
-    let shown : (size c + length (free c) * 256) / 256 % 256 ≡ length (free c) = omega (arith, w .count) in
-    step-fit 24 (driver (read byte 9)) c out (w, m) ∙ ap (λ (x : ℕ). leaving out (readRegister (registerAt x 9) (lanesAt byte 9) c)) b ∙ ap (λ (x : ℕ). leaving out (doneWith x c)) shown
+module _ (c : Chip) (w : Whole c) where
+  few : length (free c) ≤ 24
+  few = omega (arith, free-and-total (size c) (c .pool .pages) (rw (w .0 .count) (w .0 .pages)), w .0 .count)
 
--- the driver's ledger of a history from power-up
-abbrev pub ledgerOf : List Input → List ℕ → Ledger
-ledgerOf inputs out = ledgerFrom 24 inputs powerUp out (blank 24)
+  read-byte : c .regs .numbers .bank ≡ 0 → step (driver (read byte 9)) c ≡ leaving [] (doneWith (length (free c)) c)
+  unfolding serve access registerAt misplaced lanesAt bit readRegister taken wordOf highByte
+  read-byte b =
+      let shown : (size c + length (free c) * 256) / 256 % 256 ≡ length (free c) = omega (arith, w .0 .count, few) in
+      step-fit 24 (driver (read byte 9)) c w ∙ ap (λ (x : ℕ). leaving [] (readRegister (registerAt x 9) (lanesAt byte 9) c)) b ∙ ap (λ (x : ℕ). leaving [] (doneWith x c)) shown
 
--- The page ledger: what MIR then reads, with the pages granted, is 24 with the pages given back, since power-up or the last soft or MMU reset.
-pub ledger-balances : (inputs : List Input) (out later : List ℕ) → history inputs out .chip .regs .numbers .bank ≡ 0
-    → (step (driver (read byte 9)) (history inputs out .chip) later .reply .number ≡ 0)
-    × (step (driver (read byte 9)) (history inputs out .chip) later .reply .value + ledgerOf inputs out .granted ≡ 24 + ledgerOf inputs out .back)
-ledger-balances inputs out later b =
-    let c = history inputs out .chip in
-    let w = history-well inputs out in
-    let e = mir-read c later (w .0) (w .1) b in
-    (ap (λ t. t .reply .number) e, ap (λ t. t .reply .value + ledgerOf inputs out .granted) e ∙ balances 24 (omega arith) inputs out)
+  read-word : c .regs .numbers .bank ≡ 0 → step (driver (read word 8)) c ≡ leaving [] (doneWith (24 + 256 * length (free c)) c)
+  unfolding serve access registerAt misplaced lanesAt bit readRegister taken wordOf
+  read-word b =
+      let shown : size c + length (free c) * 256 ≡ 24 + 256 * length (free c) = omega (arith, w .0 .count) in
+      step-fit 24 (driver (read word 8)) c w ∙ ap (λ (x : ℕ). leaving [] (readRegister (registerAt x 8) (lanesAt word 8) c)) b ∙ ap (λ (x : ℕ). leaving [] (doneWith x c)) shown
 
--- Loading and reception do not disturb each other: every merge of loads and arriving frames ends in the same chip, with the same answers.
-pub merged-alike : (c : Chip) (out : List ℕ) → WellFormed c → length (c .memory) ≡ 6144 → (loads : List Access) (frames : List Frame) → Loads c c loads
-    → (inputs : List Input) (m : Merge (map driver loads) (map frame frames) inputs) → Merged 24 c out loads frames m
-merged-alike c out w m = merging 24 c out (w, m)
+-- A byte written at E selects the bank, in every bank.
+select-bank : (c : Chip) → Whole c → step (driver (write byte 14 0)) c ≡ leaving [] (did (inRegisters (setBank 0) c))
+unfolding serve access registerAt misplaced lanesAt bit writeRegister lowOnly
+select-bank c w = step-fit 24 (driver (write byte 14 0)) c w
+
+pub free-read : (c : Chip) → Whole c → ReadsFree c (length (free c))
+unfolding runOf
+free-read c w =
+    let d = inRegisters (setBank 0) c in
+    let e = select-bank c w in
+    let k : Whole d = subst (λ t. Whole (t .chip)) e (step-whole (driver (write byte 14 0)) c w) in
+    record {
+      asByte = ap₂ _∷_ (ap (λ t. t .reply) e) (ap (λ t. step (driver (read byte 9)) (t .chip) .reply ∷ []) e ∙ ap (λ t. t .reply ∷ []) (read-byte d k refl));
+      asWord = ap₂ _∷_ (ap (λ t. t .reply) e) (ap (λ t. step (driver (read word 8)) (t .chip) .reply ∷ []) e ∙ ap (λ t. t .reply ∷ []) (read-word d k refl));
+      byteThere = read-byte c w;
+      wordThere = read-word c w;
+    }
+
+-- "counted over the steps since power-up": for every history
+pub since-power-up : BalancesAlways
+since-power-up inputs =
+    let c = history inputs .chip in
+    record { count = length (free c); reads = free-read c (history-whole inputs); even = balances 24 (omega arith) inputs }
+
+-- "or the last soft or MMU reset": for every run, from any well-formed chip and whatever the ledger said at first, once a step of it was such a reset
+pub since-reset : (c : Chip) → Whole c → (l : Ledger) (before : List Input) (i : Input) (after : List Input) → Resets 24 i (run before c .chip)
+    → Balances (run (before ++ (i ∷ after)) c .chip) (ledgerFrom 24 (before ++ (i ∷ after)) c l)
+since-reset c w l before i after r =
+    let b = run before c .chip in
+    let k = run-whole before c w in
+    let d = run (i ∷ after) b .chip in
+    let all : Balances d (ledgerFrom 24 (i ∷ after) b (ledgerFrom 24 before c l)) =
+    record { count = length (free d); reads = free-read d (run-whole (i ∷ after) b k); even = balances-since 24 (omega arith) i after b _ k r } in
+    subst (λ m. Balances (run (before ++ (i ∷ after)) c .chip) m) (sym (ledger-joined 24 before (i ∷ after) c l))
+    (subst (λ e. Balances e (ledgerFrom 24 (i ∷ after) b (ledgerFrom 24 before c l))) (sym (run-joined 24 before (i ∷ after) c)) all)

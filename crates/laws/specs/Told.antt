@@ -11,7 +11,7 @@ use Rattle.rules.specs.Bits.{bit, lowByte}
 use Rattle.rules.specs.Lists.{firstEmpty}
 use Rattle.rules.specs.Chip.{Chip, free, allocated}
 use Rattle.rules.specs.Fields.{setRcr, inRegisters}
-use Rattle.rules.specs.Answers.{Reply, Effect, Turn, refuse, did, doneWith}
+use Rattle.rules.specs.Answers.{Reply, Effect, Turn, refuse, refused, did, doneWith}
 use Rattle.rules.specs.Mmu.{Command, nothing, allocate, reset, removeRx, removeAndRelease, release, enqueue, resetTx, unknown, decode, perform, giveBack}
 use Rattle.rules.specs.Data.{readData, writeData}
 use Rattle.rules.specs.Registers.{Lanes, low, high, both, Register, TCR, EPHSR, RCR, ECR, MIR, RESERVED, STATION, CONTROL, COMMAND, PACKET, HEADS, POINTER, DATA, INTERRUPT, TABLE, BANK, UNUSED, ABSENT, bytesOf, newRcr, writeRcr, softReset, writeInterrupt, readRegister, writeRegister, headOf, registerAt, misplaced, lanesAt, Access, read, write, access}
@@ -93,20 +93,20 @@ module _ (n : ℕ) (small : n ≤ 128) (c : Chip) (w : Fits n c) where
       rw (ne-eqb k 0x80 (omega (arith, u))) (grants-lowest m (v .0) h))
       (λ t. refl)
   told-command reset v = alone restarts _ (ap (λ (x : ℕ). replicate x []) (w .0 .count))
-  told-command removeRx v = by-head c Left (no still) _ (c .pool .rx) (λ k ks e. refl)
+  told-command removeRx v = by-head c Left _ (c .pool .rx) (no still 6) (λ k ks e. refl)
   told-command removeAndRelease v =
-      by-head c (ToldBy (λ x d. just (returns (headOf (c .pool .rx))))) (no (λ x d. just (returns (headOf (c .pool .rx))))) _ (c .pool .rx)
+      by-head c (ToldBy (λ x d. just (returns (headOf (c .pool .rx))))) _ (c .pool .rx) (no (λ x d. just (returns (headOf (c .pool .rx)))) 6)
       (λ k ks e. rw (ap headOf e ∙ headOf-first k ks) (alone (returns k) _ (in-range k (w .0 .queues .rxAllocated k (rw e (member-first k ks))), refl)))
   told-command release v =
       let k = c .regs .numbers .packet in
-      by-idle c (ToldBy (λ x d. just (returns k))) (no (λ x d. just (returns k))) (did (giveBack k c)) (λ a r t. alone (returns k) _ (in-range k a, refl))
-  told-command enqueue v = by-idle c Left (no still) _ (λ a r t. refl)
+      by-idle c (ToldBy (λ x d. just (returns k))) (did (giveBack k c)) (no (λ x d. just (returns k)) 4) (no (λ x d. just (returns k)) 5) (λ a r t. alone (returns k) _ (in-range k a, refl))
+  told-command enqueue v = by-idle c Left _ (no still 4) (no still 5) (λ a r t. refl)
   told-command resetTx v = refl
   told-command unknown v = refl
 
   told-read : (r : Register) (p : Lanes) → Left (readRegister r p c)
   unfolding readData
-  told-read = by-read c Left (no still) (λ v. refl) (λ v. refl) (λ wide. by-packet c Left (no still) _ (λ l. by-tests c Left (no still) true wide l _ refl))
+  told-read = by-read c Left (no still 1) (λ v. refl) (λ v. refl) (λ wide. by-packet c Left _ (no still 6) (no still 4) (λ l. by-tests c Left true wide l _ (no still 7) (no still 8) (no still 9) refl))
 
   -- A write to RCR leaves bit 15 set exactly when it resets.
   told-rcr : (x : ℕ) → AllApply n (cond (bit 15 (writeRcr x c .regs .receiving .rcr)) (just restarts) []) (c .pool .pages) (writeRcr x c .pool .pages)
@@ -131,24 +131,24 @@ module _ (n : ℕ) (small : n ≤ 128) (c : Chip) (w : Fits n c) where
   told-write RCR p v = told-rcr (newRcr p v (c .regs .receiving .rcr))
   told-write ECR p v = refl
   told-write MIR p v = refl
-  told-write RESERVED p v = by-lanes c Left (no still) p _ refl
+  told-write RESERVED p v = by-lanes c Left p _ (no still 2) refl
   told-write (STATION k) p v = refl
   told-write CONTROL p v = refl
-  told-write COMMAND p v = by-lanes c (ToldBy (λ x d. commandEntries (decode (lowByte v)) c d)) (no (λ x d. commandEntries (decode (lowByte v)) c d)) p _ (told-command (decode (lowByte v)) (decode-valid (lowByte v)))
-  told-write PACKET p v = by-lanes c Left (no still) p _ refl
+  told-write COMMAND p v = by-lanes c (ToldBy (λ x d. commandEntries (decode (lowByte v)) c d)) p _ (no (λ x d. commandEntries (decode (lowByte v)) c d) 2) (told-command (decode (lowByte v)) (decode-valid (lowByte v)))
+  told-write PACKET p v = by-lanes c Left p _ (no still 2) refl
   told-write HEADS p v = refl
   told-write POINTER p v = refl
-  told-write DATA p v = by-packet c Left (no still) _ (λ l. by-tests c Left (no still) false (length (bytesOf p v)) l _ refl)
+  told-write DATA p v = by-packet c Left _ (no still 6) (no still 4) (λ l. by-tests c Left false (length (bytesOf p v)) l _ (no still 7) (no still 8) (no still 9) refl)
   told-write INTERRUPT p v = told-interrupt p v
   told-write (TABLE k) p v = refl
-  told-write BANK p v = by-lanes c Left (no still) p _ refl
+  told-write BANK p v = by-lanes c Left p _ (no still 2) refl
   told-write UNUSED p v = refl
   told-write ABSENT p v = refl
 
-  told-access : (a : Access) (out : List ℕ) → ToldBy (λ v d. inputEntries (driver a) c v d) (access a c)
+  told-access : (a : Access) → ToldBy (λ v d. inputEntries (driver a) c v d) (access a c)
   unfolding access inputEntries
-  told-access (read wide o) out = pick Left (misplaced wide o) refl (told-read (registerAt (c .regs .numbers .bank) o) (lanesAt wide o))
-  told-access (write wide o v) out =
+  told-access (read wide o) = pick Left (misplaced wide o) refl (told-read (registerAt (c .regs .numbers .bank) o) (lanesAt wide o))
+  told-access (write wide o v) =
       pick (ToldBy (λ x d. writeEntries (registerAt (c .regs .numbers .bank) o) v c d)) (misplaced wide o) refl (told-write (registerAt (c .regs .numbers .bank) o) (lanesAt wide o) v)
 
   -- A frame that is stored takes the lowest number, which is then the last of RX.
@@ -169,28 +169,31 @@ module _ (n : ℕ) (small : n ≤ 128) (c : Chip) (w : Fits n c) where
   told-arrive f = pick (ToldBy (λ x d. inputEntries (frame f) c x d)) (ltb (length (f .bytes)) 18) refl (told-after (verdict f c) f refl)
 
   -- A send gives back the pages of the TX head exactly when it is good and auto release is on.
-  abbrev ToldSend : Send → Turn → Type 0
-  ToldSend s t = Told (λ x d. inputEntries (sent s) c x d) (t .reply) (t .chip)
+  module _ (s : Send) (out : List ℕ) where
+    abbrev ToldSend : Turn → Type 0
+    ToldSend t = Told (λ x d. inputEntries (sent s out) c x d) (t .reply) (t .chip)
 
-  retired : (k : ℕ) (rest : List ℕ) → c .pool .tx ≡ k ∷ rest → (b : Bool) (x y : Chip) → x .pool .pages ≡ set (c .pool .pages) k [] → y .pool .pages ≡ c .pool .pages
-      → AllApply n (cond b (just (returns (headOf (c .pool .tx)))) []) (c .pool .pages) (cond b x y .pool .pages)
-  retired k rest e true x y p q = rw (ap headOf e ∙ headOf-first k rest) (alone (returns k) _ (in-range k (w .0 .queues .txAllocated k (rw e (member-first k rest))), p))
-  retired k rest e false x y p q = q
+    retired : (k : ℕ) (rest : List ℕ) → c .pool .tx ≡ k ∷ rest → (b : Bool) (x y : Chip) → x .pool .pages ≡ set (c .pool .pages) k [] → y .pool .pages ≡ c .pool .pages
+        → AllApply n (cond b (just (returns (headOf (c .pool .tx)))) []) (c .pool .pages) (cond b x y .pool .pages)
+    retired k rest e true x y p q = rw (ap headOf e ∙ headOf-first k rest) (alone (returns k) _ (in-range k (w .0 .queues .txAllocated k (rw e (member-first k rest))), p))
+    retired k rest e false x y p q = q
 
-  told-head : (s : Send) (k : ℕ) (rest out : List ℕ) → c .pool .tx ≡ k ∷ rest → ToldSend s (sendHead s k rest c out)
-  unfolding sendHead inputEntries
-  told-head s k rest out e = retired k rest e (autoRelease (good (c .regs .sending .tcr) (s .outcome)) (c .regs)) _ _ refl refl
+    told-head : (k : ℕ) (rest : List ℕ) → c .pool .tx ≡ k ∷ rest → ToldSend (sendHead s k rest c out)
+    unfolding sendHead inputEntries
+    told-head k rest e = retired k rest e (autoRelease (good (c .regs .sending .tcr) (s .outcome)) (c .regs)) _ _ refl refl
 
-  told-send : (s : Send) (out : List ℕ) → ToldSend s (finish s c out)
-  told-send s out = by-send c out (ToldSend s) (no (λ x d. inputEntries (sent s) c x d)) s (λ k rest e f. told-head s k rest out e)
+    told-send : ToldSend (finish s c out)
+    told-send =
+        let not-done : (k : ℕ) → ToldSend (refused (suc k) c out) = no (λ x d. inputEntries (sent s out) c x d) in
+        by-send c out ToldSend s (not-done 14) (not-done 10) (not-done 11) (not-done 12) (not-done 13) (λ k rest e f. told-head k rest e)
 
-  told-serve : (i : Input) (out : List ℕ) → AllApply n (entriesOf i c (serve i c out)) (c .pool .pages) (serve i c out .chip .pool .pages)
+  told-serve : (i : Input) → AllApply n (entriesOf i c (serve i c)) (c .pool .pages) (serve i c .chip .pool .pages)
   unfolding serve entriesOf
-  told-serve (driver a) out = told-access a out
-  told-serve (frame f) out = told-arrive f
-  told-serve (sent s) out = told-send s out
+  told-serve (driver a) = told-access a
+  told-serve (frame f) = told-arrive f
+  told-serve (sent s out) = told-send s out
 
   -- The entries of a step tell what it does to the page lists.
-  pub told : (i : Input) (out : List ℕ) → AllApply n (entriesOf i c (stepOf n i c out)) (c .pool .pages) (stepOf n i c out .chip .pool .pages)
+  pub told : (i : Input) → AllApply n (entriesOf i c (stepOf n i c)) (c .pool .pages) (stepOf n i c .chip .pool .pages)
   unfolding entriesOf
-  told i out = by-step c out (λ (t : Turn). AllApply n (entriesOf i c t) (c .pool .pages) (t .chip .pool .pages)) (no (inputEntries i c)) n i (told-serve i out)
+  told i = by-step c (λ (t : Turn). AllApply n (entriesOf i c t) (c .pool .pages) (t .chip .pool .pages)) n i (no (inputEntries i c) 15) (told-serve i)

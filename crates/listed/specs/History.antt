@@ -18,19 +18,19 @@ use Rattle.listed.specs.Record.{page, packet, used, SoundQueue}
 use Rattle.listed.specs.Convert.{Listed, Lent, Converts, toSets, toLists, listedChip, ListedInOrder, ListedTyped, LentInOrder, LentTyped, sets-in-order, sets-typed, lists-back, converts-chip}
 use Rattle.listed.specs.Same.{ListedLeft, LentLeft, listedIn, lentIn, ListedStep, LentStep, SameLeft, same-left, same-step}
 
--- Runs: each step meets its promise on what the step before it left, and takes its output buffer, as `run` of the rules does.
+-- Runs: each step meets its promise on what the step before it left, as `run` of the rules does.
 abbrev pub ListedRun : List Input → ListedLeft → List ListedLeft → Type 0
 ListedRun [] x [] = Unit {0}
 ListedRun [] x (x′ ∷ xs) = ⊥
 ListedRun (i ∷ is) x [] = ⊥
-ListedRun (i ∷ is) x (x′ ∷ xs) = ListedStep i (listedIn x) (x .memory) (x .output) x′ × ListedRun is x′ xs
+ListedRun (i ∷ is) x (x′ ∷ xs) = ListedStep i (listedIn x) (x .memory) x′ × ListedRun is x′ xs
 
 -- (and the numbers that it returns are of their types)
 abbrev pub LentRun : List Input → LentLeft → List LentLeft → Type 0
 LentRun [] y [] = Unit {0}
 LentRun [] y (y′ ∷ ys) = ⊥
 LentRun (i ∷ is) y [] = ⊥
-LentRun (i ∷ is) y (y′ ∷ ys) = LentStep i (lentIn y) (y .memory) (y .output) y′ × LentTyped (lentIn y′) × LentRun is y′ ys
+LentRun (i ∷ is) y (y′ ∷ ys) = LentStep i (lentIn y) (y .memory) y′ × LentTyped (lentIn y′) × LentRun is y′ ys
 
 -- the same is left by every step
 abbrev pub AllSame : List ListedLeft → List LentLeft → Type 0
@@ -57,8 +57,8 @@ same-run (i ∷ is) x y s [] ys a b = absurd a
 same-run (i ∷ is) x y s (x′ ∷ xs) [] a b = absurd b
 same-run (i ∷ is) x y s (x′ ∷ xs) (y′ ∷ ys) a b =
     let before : LentInOrder (lentIn y) (x .memory) = subst (LentInOrder (lentIn y)) (sym (s .memory)) (s .lent) in
-    let step : LentStep i (lentIn y) (x .memory) (x .output) y′ = subst (λ (m : List ℕ). LentStep i (lentIn y) m (x .output) y′) (sym (s .memory)) (subst (λ (o : List ℕ). LentStep i (lentIn y) (y .memory) o y′) (sym (s .output)) (b .0)) in
-    let now = same-step i (listedIn x) (lentIn y) (x .memory) (x .output) (s .listed) before (s .converts) x′ y′ (a .0) step (b .1) in
+    let step : LentStep i (lentIn y) (x .memory) y′ = subst (λ (m : List ℕ). LentStep i (lentIn y) m y′) (sym (s .memory)) (b .0) in
+    let now = same-step i (listedIn x) (lentIn y) (x .memory) (s .listed) before (s .converts) x′ y′ (a .0) step (b .1) in
     let rest = same-run is x′ y′ now xs ys (a .1) (b .2) in
     record { all = (now, rest .all); answers = ap₂ _∷_ (now .answer) (rest .answers); end = rest .end }
 
@@ -134,20 +134,20 @@ sets-power-up = refl
 pub converts-power-up : Converts listedPowerUp lentPowerUp
 converts-power-up = record { sets = sets-power-up; lists = ap toLists (sym sets-power-up) ∙ lists-back listedPowerUp zeros listed-typed listed-in-order }
 
--- what power-up leaves, beside any output buffer
-abbrev pub listedStart : List ℕ → ListedLeft
-listedStart out = record { stepped = record { answer = Done 0; registers = listedPowerUp .registers; pages = listedPowerUp .pages }; memory = zeros; output = out }
+-- what power-up leaves: it is lent no output buffer
+abbrev pub listedStart : ListedLeft
+listedStart = record { stepped = record { answer = Done 0; registers = listedPowerUp .registers; pages = listedPowerUp .pages }; memory = zeros; output = [] }
 
-abbrev pub lentStart : List ℕ → LentLeft
-lentStart out = record { returned = record { answer = Done 0; registers = lentPowerUp .registers; pages = lentPowerUp .pages; queues = lentPowerUp .queues }; memory = zeros; output = out }
+abbrev pub lentStart : LentLeft
+lentStart = record { returned = record { answer = Done 0; registers = lentPowerUp .registers; pages = lentPowerUp .pages; queues = lentPowerUp .queues }; memory = zeros; output = [] }
 
-pub same-start : (out : List ℕ) → SameLeft (listedStart out) (lentStart out)
-same-start out =
+pub same-start : SameLeft listedStart lentStart
+same-start =
     let o = subst (λ (y : Lent). LentInOrder y zeros) sets-power-up (sets-in-order listedPowerUp zeros listed-typed listed-in-order) in
     let t = subst LentTyped sets-power-up (sets-typed listedPowerUp zeros listed-typed listed-in-order) in
-    same-left (listedStart out) (lentStart out) refl refl listed-in-order o t (converts-chip listedPowerUp lentPowerUp zeros o converts-power-up)
+    same-left listedStart lentStart refl refl listed-in-order o t (converts-chip listedPowerUp lentPowerUp zeros o converts-power-up)
 
 -- Every history: the same answers all along, and records that convert into each other after every step and at the end.
-pub same-history : (is : List Input) (out : List ℕ) (xs : List ListedLeft) (ys : List LentLeft)
-    → ListedRun is (listedStart out) xs → LentRun is (lentStart out) ys → SameRun (listedStart out) xs (lentStart out) ys
-same-history is out = same-run is (listedStart out) (lentStart out) (same-start out)
+pub same-history : (is : List Input) (xs : List ListedLeft) (ys : List LentLeft)
+    → ListedRun is listedStart xs → LentRun is lentStart ys → SameRun listedStart xs lentStart ys
+same-history is = same-run is listedStart lentStart same-start

@@ -4,7 +4,7 @@ use mathlib.Core.List.{List}
 use Prim.Native.Nat.{ℕ}
 use lib.ListN.{length}
 use Rattle.rules.specs.Answers.{Turn}
-use Rattle.rules.specs.Step.{Input, step}
+use Rattle.rules.specs.Step.{Input, lent, step}
 use Rattle.state.specs.declared.Answer.the-variants.{Damaged}
 use Rattle.state.specs.Meaning.{replyOf}
 use Rattle.listed.specs.declared.Page.{Page}
@@ -30,7 +30,7 @@ pub record Broken (r : Registers) (m : List (List Page)) (mem out : List ℕ) (x
   pub memory : mem′ ≡ mem
   pub output : out′ ≡ out
 
--- the promise of a public entry: on registers r, page map m, memory mem and output buffer out it returns x, and leaves memory mem′ and output out′
-pub record Answers (i : Input) (r : Registers) (m : List (List Page)) (mem out : List ℕ) (x : Stepped) (mem′ out′ : List ℕ) : Type 0 where
-  pub done : InOrder r m mem → Right (step i (view r m mem) out) x mem′ out′
-  pub broken : (InOrder r m mem → ⊥) → Broken r m mem out x mem′ out′
+-- the promise of a public entry: on registers r, page map m and memory mem it returns x, and leaves memory mem′ and output out′ (of the buffer that the input lends)
+pub record Answers (i : Input) (r : Registers) (m : List (List Page)) (mem : List ℕ) (x : Stepped) (mem′ out′ : List ℕ) : Type 0 where
+  pub done : InOrder r m mem → Right (step i (view r m mem)) x mem′ out′
+  pub broken : (InOrder r m mem → ⊥) → Broken r m mem (lent i) x mem′ out′

@@ -36,12 +36,12 @@ listedIn x = record { registers = x .stepped .registers; pages = x .stepped .pag
 abbrev pub lentIn : LentLeft → Lent
 lentIn y = record { registers = y .returned .registers; pages = y .returned .pages; queues = y .returned .queues }
 
--- the promise of a public entry for the input i, on a record, memory and output buffer
-abbrev pub ListedStep : Input → Listed → List ℕ → List ℕ → ListedLeft → Type 0
-ListedStep i x mem out x′ = Answers i (x .registers) (x .pages) mem out (x′ .stepped) (x′ .memory) (x′ .output)
+-- the promise of a public entry for the input i, on a record and its memory
+abbrev pub ListedStep : Input → Listed → List ℕ → ListedLeft → Type 0
+ListedStep i x mem x′ = Answers i (x .registers) (x .pages) mem (x′ .stepped) (x′ .memory) (x′ .output)
 
-abbrev pub LentStep : Input → Lent → List ℕ → List ℕ → LentLeft → Type 0
-LentStep i y mem out y′ = lent.Answers i (y .registers) (y .pages) (y .queues) mem out (y′ .returned) (y′ .memory) (y′ .output)
+abbrev pub LentStep : Input → Lent → List ℕ → LentLeft → Type 0
+LentStep i y mem y′ = lent.Answers i (y .registers) (y .pages) (y .queues) mem (y′ .returned) (y′ .memory) (y′ .output)
 
 -- the same is left: answer, registers and page lists as the rules have them, memory and output; and the records are in order and convert into each other
 pub record SameLeft (x : ListedLeft) (y : LentLeft) : Type 0 where
@@ -69,12 +69,12 @@ same-left x y a e o p t chip = record {
   lent = p;
 }
 
-pub same-step : (i : Input) (x : Listed) (y : Lent) (mem out : List ℕ) → ListedInOrder x mem → LentInOrder y mem → Converts x y
-    → (x′ : ListedLeft) (y′ : LentLeft) → ListedStep i x mem out x′ → LentStep i y mem out y′ → LentTyped (lentIn y′) → SameLeft x′ y′
-same-step i x y mem out o p c x′ y′ a b t =
+pub same-step : (i : Input) (x : Listed) (y : Lent) (mem : List ℕ) → ListedInOrder x mem → LentInOrder y mem → Converts x y
+    → (x′ : ListedLeft) (y′ : LentLeft) → ListedStep i x mem x′ → LentStep i y mem y′ → LentTyped (lentIn y′) → SameLeft x′ y′
+same-step i x y mem o p c x′ y′ a b t =
     let u = a .done o in
     let v = b .done p in
-    let e : step i (listedChip x mem) out ≡ step i (lentChip y mem) out = ap (λ (d : Chip). step i d out) (converts-chip x y mem p c) in
+    let e : step i (listedChip x mem) ≡ step i (lentChip y mem) = ap (λ (d : Chip). step i d) (converts-chip x y mem p c) in
     same-left x′ y′
     (one-answer (x′ .stepped .answer) (y′ .returned .answer) (u .reply ∙ ap (λ (z : Turn). z .reply) e ∙ sym (v .reply)))
     (u .output ∙ ap (λ (z : Turn). z .output) e ∙ sym (v .output))

@@ -80,10 +80,10 @@ unfolding tally counted
 failed-single s ecr a b = rw (a, b)
 
 -- The first value is not 0, and each answer is that of the chip after the inputs before it: the bank is read, then bank 2 is selected and its queue heads are read.
-pub answers-go-on : (out : List ℕ) → history (driver (read word 14) ∷ driver (write byte 14 2) ∷ driver (read word 4) ∷ []) out .replies
+pub answers-go-on : history (driver (read word 14) ∷ driver (write byte 14 2) ∷ driver (read word 4) ∷ []) .replies
     ≡ record { number = 0; value = 0x3300 } ∷ record { number = 0; value = 0 } ∷ record { number = 0; value = 0x8080 } ∷ []
 unfolding runOf stepOf fit formed pagesGood ascends allBelow noneOwned numbersGood queuesGood queueGood apart serve access misplaced bit registerAt lanesAt readRegister writeRegister taken lowOnly wordOf headOf
-answers-go-on out = refl
+answers-go-on = refl
 
 -- Refusal 8 comes before 9 and 10.
 pub eight-first : (isRead : Bool) (width : ℕ) (pages : List ℕ) (c : Chip) (e : Effect) → against isRead (c .regs .pointer) ≡ true → ifOpen isRead width pages c e ≡ refuse 8 c

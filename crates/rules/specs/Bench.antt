@@ -6,10 +6,10 @@ use lib.Dec.{eqb, leb, ltb}
 use lib.ListN.{length, getD, take, drop, replicate}
 use Rattle.rules.specs.Bits.{bit, wordOf}
 use Rattle.rules.specs.Chip.{Chip, powerUp}
-use Rattle.rules.specs.Answers.{Reply, done, refusal}
+use Rattle.rules.specs.Answers.{Reply, Turn, done, refusal}
 use Rattle.rules.specs.Registers.{Access, read, write, byte, word}
 use Rattle.rules.specs.Send.{Send}
-use Rattle.rules.specs.Step.{Input, driver, frame, sent, step}
+use Rattle.rules.specs.Step.{driver, frame, sent, step}
 
 -- what a record asks for (an "event" of refusal 11 is a frame or a send)
 pub data Event : Type 0 where
@@ -53,9 +53,9 @@ pub record Answered : Type 0 where
   pub reply : Reply
   pub after : Bench
 
--- a step of the chip, with the wire bytes that are gathered after it
-abbrev pub asStep : Input → List ℕ → Bench → Answered
-asStep i left b = let t = step i (b .chip) (b .output) in record { reply = t .reply; after = record { chip = t .chip; gathered = left; output = t .output } }
+-- a turn of the chip, with the wire bytes that are gathered after it and the output buffer
+abbrev pub told : Turn → List ℕ → List ℕ → Answered
+told t left output = record { reply = t .reply; after = record { chip = t .chip; gathered = left; output = output } }
 
 -- "count 1 to 6, then bytes; 11 if the count is wrong or more than 2,048 would gather"
 unfoldable pub gather : ℕ → List ℕ → Bench → Answered
@@ -64,11 +64,12 @@ gather count bytes b =
     (record { reply = done; after = record { chip = b .chip; gathered = b .gathered ++ take count bytes; output = b .output } })
 
 unfoldable pub answer : Event → Bench → Answered
-answer (access a) b = asStep (driver a) (b .gathered) b
+answer (access a) b = told (step (driver a) (b .chip)) (b .gathered) (b .output)
 answer (wire count bytes) b = gather count bytes b
 -- "gathering emptied whatever the answer"
-answer (frameEnds crc align) b = asStep (frame (record { bytes = b .gathered; badCrc = crc; alignment = align })) [] b
-answer (send s) b = asStep (sent s) (b .gathered) b
+answer (frameEnds crc align) b = told (step (frame (record { bytes = b .gathered; badCrc = crc; alignment = align })) (b .chip)) [] (b .output)
+-- a send is lent the bench's buffer
+answer (send s) b = let t = step (sent s (b .output)) (b .chip) in told t (b .gathered) (t .output)
 -- "record cut short or of unknown kind": "A 17 prints its line and the run goes on."
 answer unknown b = record { reply = refusal 17; after = b }
 

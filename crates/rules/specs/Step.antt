@@ -12,37 +12,44 @@ use Rattle.rules.specs.Send.{Send, finish}
 pub data Input : Type 0 where
   driver : Access → Input
   frame : Frame → Input
-  sent : Send → Input
+  -- a send, and the output buffer that is lent for it
+  sent : Send → List ℕ → Input
+
+-- the output buffer that an input lends: accesses and frames lend none
+abbrev pub lent : Input → List ℕ
+lent (driver a) = []
+lent (frame f) = []
+lent (sent s out) = out
 
 -- on a chip that is well formed and has its memory
-unfoldable pub serve : Input → Chip → List ℕ → Turn
-serve (driver a) c out = leaving out (access a c)
-serve (frame f) c out = leaving out (arrive f c)
-serve (sent s) c out = finish s c out
+unfoldable pub serve : Input → Chip → Turn
+serve (driver a) c = leaving [] (access a c)
+serve (frame f) c = leaving [] (arrive f c)
+serve (sent s out) c = finish s c out
 
 -- on any chip: refusal 16 is first, whatever the input; n is the part's number of pages
-unfoldable pub stepOf : ℕ → Input → Chip → List ℕ → Turn
-stepOf n i c out = cond (not (fit n c)) (refused 16 c out) (serve i c out)
+unfoldable pub stepOf : ℕ → Input → Chip → Turn
+stepOf n i c = cond (not (fit n c)) (refused 16 c (lent i)) (serve i c)
 
-abbrev pub step : Input → Chip → List ℕ → Turn
+abbrev pub step : Input → Chip → Turn
 step = stepOf 24
 
--- inputs one after another: the replies, and the last chip and output buffer
+-- inputs one after another: their replies, the output buffer of each after it, and the last chip
 pub record Ran : Type 0 where
   pub replies : List Reply
+  pub outputs : List (List ℕ)
   pub chip : Chip
-  pub output : List ℕ
 
-abbrev pub behind : Reply → Ran → Ran
-behind r x = record { replies = r ∷ x .replies; chip = x .chip; output = x .output }
+abbrev pub behind : Turn → Ran → Ran
+behind t x = record { replies = t .reply ∷ x .replies; outputs = t .output ∷ x .outputs; chip = x .chip }
 
-unfoldable pub runOf : ℕ → List Input → Chip → List ℕ → Ran
-runOf n [] c out = record { replies = []; chip = c; output = out }
-runOf n (i ∷ is) c out = let t = stepOf n i c out in behind (t .reply) (runOf n is (t .chip) (t .output))
+unfoldable pub runOf : ℕ → List Input → Chip → Ran
+runOf n [] c = record { replies = []; outputs = []; chip = c }
+runOf n (i ∷ is) c = let t = stepOf n i c in behind t (runOf n is (t .chip))
 
-abbrev pub run : List Input → Chip → List ℕ → Ran
+abbrev pub run : List Input → Chip → Ran
 run = runOf 24
 
--- a history: from power-up, with any output buffer
-abbrev pub history : List Input → List ℕ → Ran
-history inputs out = run inputs powerUp out
+-- a history: from power-up
+abbrev pub history : List Input → Ran
+history inputs = run inputs powerUp

@@ -41,7 +41,7 @@ fn frame_ends(
     align: bool,
 ) -> Answer
     requires { ⌜ Held (now words) (now sets) (now queues) (now memory) (now wire) (now have) ⌝ }
-    ensures { λ a. ⌜ Right (steps.step (steps.frame (frameOf (take (now (have .entry)) (now (wire .entry))) crc align)) (view (now (words .entry)) (now (sets .entry)) (now (queues .entry)) (now (memory .entry))) []) a (now (words .exit)) (now (sets .exit)) (now (queues .exit)) (now (memory .exit)) [] × (now (have .exit) ≡ 0) ⌝ }
+    ensures { λ a. ⌜ Right (steps.step (steps.frame (frameOf (take (now (have .entry)) (now (wire .entry))) crc align)) (view (now (words .entry)) (now (sets .entry)) (now (queues .entry)) (now (memory .entry)))) a (now (words .exit)) (now (sets .exit)) (now (queues .exit)) (now (memory .exit)) [] × (now (have .exit) ≡ 0) ⌝ }
 {
     let n = *have;
     *have = 0;

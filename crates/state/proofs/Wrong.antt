@@ -67,11 +67,11 @@ ready = record {
 -- The record with word `at` another one gets 16, whatever the input and whatever the memory.
 abbrev Gets16 : ℕ → ℕ → Type 0
 Gets16 at x =
-    (i : Input) (mem out : List ℕ) (y : Returned) (mem′ out′ : List ℕ)
-    → Answers i (record { words = set words at x }) (record { sets = sets }) (record { slots = queues }) mem out y mem′ out′ → y .answer ≡ Damaged
+    (i : Input) (mem : List ℕ) (y : Returned) (mem′ out′ : List ℕ)
+    → Answers i (record { words = set words at x }) (record { sets = sets }) (record { slots = queues }) mem y mem′ out′ → y .answer ≡ Damaged
 
 refused : (at x : ℕ) → (Ready (set words at x) sets queues → ⊥) → Gets16 at x
-refused at x n i mem out y mem′ out′ a = ap (λ (z : Returned). z .answer) (a .broken (λ o. n (o .ready)) .same)
+refused at x n i mem y mem′ out′ a = ap (λ (z : Returned). z .answer) (a .broken (λ o. n (o .ready)) .same)
 
 -- one page less is free, and one more; or MIR does not say that there are 24
 pub one-free-less : Gets16 4 0x1418

@@ -4,7 +4,7 @@ use mathlib.Core.List.{List}
 use Prim.Native.Nat.{ℕ}
 use lib.ListN.{length}
 use Rattle.rules.specs.Answers.{Turn}
-use Rattle.rules.specs.Step.{Input, step}
+use Rattle.rules.specs.Step.{Input, lent, step}
 use Rattle.state.specs.declared.Answer.{Answer}
 use Rattle.state.specs.declared.Answer.the-variants.{Damaged}
 use Rattle.state.specs.declared.Registers.{Registers}
@@ -36,7 +36,7 @@ pub record Broken (r : Registers) (p : Pages) (f : Queues) (mem out : List ℕ) 
 abbrev pub InOrderBy : Registers → Pages → Queues → List ℕ → Type 0
 InOrderBy r p f mem = InOrder (r .words) (p .sets) (f .slots) mem
 
--- the promise of a public entry: on registers r, page sets p, queues f, memory mem and output buffer out it returns x, and leaves memory mem′ and output out′
-pub record Answers (i : Input) (r : Registers) (p : Pages) (f : Queues) (mem out : List ℕ) (x : Returned) (mem′ out′ : List ℕ) : Type 0 where
-  pub done : InOrderBy r p f mem → Right (step i (view (r .words) (p .sets) (f .slots) mem) out) (x .answer) (x .registers .words) (x .pages .sets) (x .queues .slots) mem′ out′
-  pub broken : (InOrderBy r p f mem → ⊥) → Broken r p f mem out x mem′ out′
+-- the promise of a public entry: on registers r, page sets p, queues f and memory mem it returns x, and leaves memory mem′ and output out′ (of the buffer that the input lends)
+pub record Answers (i : Input) (r : Registers) (p : Pages) (f : Queues) (mem : List ℕ) (x : Returned) (mem′ out′ : List ℕ) : Type 0 where
+  pub done : InOrderBy r p f mem → Right (step i (view (r .words) (p .sets) (f .slots) mem)) (x .answer) (x .registers .words) (x .pages .sets) (x .queues .slots) mem′ out′
+  pub broken : (InOrderBy r p f mem → ⊥) → Broken r p f mem (lent i) x mem′ out′

@@ -233,9 +233,9 @@ same-either x y mem mem′ out out′ P f g =
     }
 
 -- Only one result: answer, words, sets, queues, memory and output.
-pub only : (i : Input) (r : Registers) (p : Pages) (k : Queues) (mem out : List ℕ) (x y : Returned) (mem₁ mem₂ out₁ out₂ : List ℕ) → SmallIn x → SmallIn y
-    → Answers i r p k mem out x mem₁ out₁ → Answers i r p k mem out y mem₂ out₂ → Same x y mem₁ mem₂ out₁ out₂
-only i r p k mem out x y mem₁ mem₂ out₁ out₂ f g a b =
+pub only : (i : Input) (r : Registers) (p : Pages) (k : Queues) (mem : List ℕ) (x y : Returned) (mem₁ mem₂ out₁ out₂ : List ℕ) → SmallIn x → SmallIn y
+    → Answers i r p k mem x mem₁ out₁ → Answers i r p k mem y mem₂ out₂ → Same x y mem₁ mem₂ out₁ out₂
+only i r p k mem x y mem₁ mem₂ out₁ out₂ f g a b =
     same-either x y mem₁ mem₂ out₁ out₂ (InOrderBy r p k mem)
-    (λ w. right-once (step i (view (r .words) (p .sets) (k .slots) mem) out) x y mem₁ mem₂ out₁ out₂ f g (a .done w) (b .done w))
+    (λ w. right-once (step i (view (r .words) (p .sets) (k .slots) mem)) x y mem₁ mem₂ out₁ out₂ f g (a .done w) (b .done w))
     (λ n. let u = a .broken n in let v = b .broken n in record { returned = u .same ∙ sym (v .same); memory = u .memory ∙ sym (v .memory); output = u .output ∙ sym (v .output) })

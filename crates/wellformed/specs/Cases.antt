@@ -1,8 +1,8 @@
--- Going by the cases of the rules: what holds of each outcome holds of the test that chooses it; and what every refusal has, and what is done has, the step has.
+-- Going by the cases of the rules: what holds of each outcome holds of the test that chooses it; and what each refusal of a step has, and what is done has, the step has.
 use mathlib.Core.Path.{_≡_, refl}
 use mathlib.Core.Bool.{Bool, true, false, cond, not}
 use mathlib.Core.List.{List, [], _∷_}
-use Prim.Native.Nat.{ℕ, suc}
+use Prim.Native.Nat.{ℕ}
 use lib.Dec.{ltb}
 use lib.ListN.{length}
 use Rattle.rules.specs.Bits.{bit}
@@ -15,7 +15,7 @@ use Rattle.rules.specs.Data.{rcv, against, oddFixed, past, ifPacket, ifOpen, re
 use Rattle.rules.specs.Registers.{Lanes, low, high, both, Register, TCR, EPHSR, RCR, ECR, MIR, RESERVED, STATION, CONTROL, COMMAND, PACKET, HEADS, POINTER, DATA, INTERRUPT, TABLE, BANK, UNUSED, ABSENT, width, clearEcr, lowOnly, readRegister}
 use Rattle.rules.specs.Send.{Send, inLimits, usable, byteCount, noPlace, sendHead, ifSendable, byTxHead, finish}
 use Rattle.rules.specs.Tests.{fit}
-use Rattle.rules.specs.Step.{Input, serve, stepOf}
+use Rattle.rules.specs.Step.{Input, lent, serve, stepOf}
 use Rattle.lists.specs.Facts.{or-left, or-right}
 
 pub pick : {A : Type 0} (P : A → Type 0) (b : Bool) {x y : A} → P x → P y → P (cond b x y)
@@ -32,79 +32,80 @@ pub pick-unless : {A : Type 0} (P : A → Type 0) (b : Bool) {x y : A} → (b �
 pick-unless P true p q = q refl
 pick-unless P false p q = p refl
 
--- A property of effects that every refusal on the chip has.
-module _ (c : Chip) (P : Effect → Type 0) (no : (k : ℕ) → P (refuse (suc k) c)) where
+-- A property of effects: each refusal that a chain of tests may give has it, and what is done.
+module _ (c : Chip) (P : Effect → Type 0) where
   -- refusal 7, else by the RX head
-  pub by-head : (f : ℕ → List ℕ → Effect) (l : List ℕ) → ((k : ℕ) (ks : List ℕ) → l ≡ k ∷ ks → P (f k ks)) → P (ifHead c l f)
-  by-head f [] h = no 6
-  by-head f (k ∷ ks) h = h k ks refl
+  pub by-head : (f : ℕ → List ℕ → Effect) (l : List ℕ) → P (refuse 7 c) → ((k : ℕ) (ks : List ℕ) → l ≡ k ∷ ks → P (f k ks)) → P (ifHead c l f)
+  by-head f [] r7 h = r7
+  by-head f (k ∷ ks) r7 h = h k ks refl
 
   -- refusals 5 and 6, else of an allocated packet in neither queue
-  pub by-idle : (s : Effect)
+  pub by-idle : (s : Effect) → P (refuse 5 c) → P (refuse 6 c)
       → (allocated (c .regs .numbers .packet) c ≡ true → member (c .regs .numbers .packet) (c .pool .rx) ≡ false → member (c .regs .numbers .packet) (c .pool .tx) ≡ false → P s) → P (ifIdle c s)
-  by-idle s f =
+  by-idle s r5 r6 f =
       let k = c .regs .numbers .packet in
-      pick-unless P (allocated k c) (λ a. no 4)
-      (λ a. pick-by P (queued k c) (λ q. no 5) (λ q. f a (or-left (member k (c .pool .rx)) (member k (c .pool .tx)) q) (or-right (member k (c .pool .rx)) (member k (c .pool .tx)) q)))
+      pick-unless P (allocated k c) (λ a. r5)
+      (λ a. pick-by P (queued k c) (λ q. r6) (λ q. f a (or-left (member k (c .pool .rx)) (member k (c .pool .tx)) q) (or-right (member k (c .pool .rx)) (member k (c .pool .tx)) q)))
 
   -- refusals 7 and 5, else by the pages of the packet that the pointer means
-  pub by-packet : (f : List ℕ → Effect) → ((pages : List ℕ) → P (f pages)) → P (ifPacket c f)
+  pub by-packet : (f : List ℕ → Effect) → P (refuse 7 c) → P (refuse 5 c) → ((pages : List ℕ) → P (f pages)) → P (ifPacket c f)
   unfolding ifPacket
-  by-packet f h =
-      pick P (rcv (c .regs .pointer)) (by-head _ (c .pool .rx) (λ k ks e. h (pagesAt c k))) (pick-unless P (allocated (c .regs .numbers .packet) c) (λ a. no 4) (λ a. h (pagesAt c (c .regs .numbers .packet))))
+  by-packet f r7 r5 h =
+      pick P (rcv (c .regs .pointer)) (by-head _ (c .pool .rx) r7 (λ k ks e. h (pagesAt c k))) (pick-unless P (allocated (c .regs .numbers .packet) c) (λ a. r5) (λ a. h (pagesAt c (c .regs .numbers .packet))))
 
   -- refusals 8, 9 and 10
-  pub by-tests : (isRead : Bool) (wide : ℕ) (pages : List ℕ) (s : Effect) → P s → P (ifOpen isRead wide pages c s)
+  pub by-tests : (isRead : Bool) (wide : ℕ) (pages : List ℕ) (s : Effect) → P (refuse 8 c) → P (refuse 9 c) → P (refuse 10 c) → P s → P (ifOpen isRead wide pages c s)
   unfolding ifOpen
-  by-tests isRead wide pages s h =
+  by-tests isRead wide pages s r8 r9 r10 h =
       let p = c .regs .pointer in
-      pick P (against isRead p) (no 7) (pick P (oddFixed p) (no 8) (pick P (past wide p pages) (no 9) h))
+      pick P (against isRead p) r8 (pick P (oddFixed p) r9 (pick P (past wide p pages) r10 h))
 
   -- refusal 3, where the high byte is read-only
-  pub by-lanes : (p : Lanes) (s : Effect) → P s → P (lowOnly p c s)
+  pub by-lanes : (p : Lanes) (s : Effect) → P (refuse 3 c) → P s → P (lowOnly p c s)
   unfolding lowOnly
-  by-lanes low s h = h
-  by-lanes high s h = no 2
-  by-lanes both s h = h
+  by-lanes low s r3 h = h
+  by-lanes high s r3 h = r3
+  by-lanes both s r3 h = h
 
   -- refusal 2, else a value: reads change nothing but for ECR and data
-  pub by-read : ((v : ℕ) → P (doneWith v c)) → ((v : ℕ) → P (doneWith v (inRegisters clearEcr c))) → ((wide : ℕ) → P (readData wide c)) → (r : Register) (p : Lanes) → P (readRegister r p c)
+  pub by-read : P (refuse 2 c) → ((v : ℕ) → P (doneWith v c)) → ((v : ℕ) → P (doneWith v (inRegisters clearEcr c))) → ((wide : ℕ) → P (readData wide c))
+      → (r : Register) (p : Lanes) → P (readRegister r p c)
   unfolding readRegister
-  by-read shown cleared moved TCR p = shown _
-  by-read shown cleared moved EPHSR p = shown _
-  by-read shown cleared moved RCR p = shown _
-  by-read shown cleared moved ECR p = cleared _
-  by-read shown cleared moved MIR p = shown _
-  by-read shown cleared moved RESERVED p = shown _
-  by-read shown cleared moved (STATION k) p = shown _
-  by-read shown cleared moved CONTROL p = shown _
-  by-read shown cleared moved COMMAND p = shown _
-  by-read shown cleared moved PACKET p = shown _
-  by-read shown cleared moved HEADS p = shown _
-  by-read shown cleared moved POINTER p = shown _
-  by-read shown cleared moved DATA p = moved (width p)
-  by-read shown cleared moved INTERRUPT p = shown _
-  by-read shown cleared moved (TABLE k) p = shown _
-  by-read shown cleared moved BANK p = shown _
-  by-read shown cleared moved UNUSED p = shown _
-  by-read shown cleared moved ABSENT p = no 1
+  by-read r2 shown cleared moved TCR p = shown _
+  by-read r2 shown cleared moved EPHSR p = shown _
+  by-read r2 shown cleared moved RCR p = shown _
+  by-read r2 shown cleared moved ECR p = cleared _
+  by-read r2 shown cleared moved MIR p = shown _
+  by-read r2 shown cleared moved RESERVED p = shown _
+  by-read r2 shown cleared moved (STATION k) p = shown _
+  by-read r2 shown cleared moved CONTROL p = shown _
+  by-read r2 shown cleared moved COMMAND p = shown _
+  by-read r2 shown cleared moved PACKET p = shown _
+  by-read r2 shown cleared moved HEADS p = shown _
+  by-read r2 shown cleared moved POINTER p = shown _
+  by-read r2 shown cleared moved DATA p = moved (width p)
+  by-read r2 shown cleared moved INTERRUPT p = shown _
+  by-read r2 shown cleared moved (TABLE k) p = shown _
+  by-read r2 shown cleared moved BANK p = shown _
+  by-read r2 shown cleared moved UNUSED p = shown _
+  by-read r2 shown cleared moved ABSENT p = r2
 
--- A property of turns that every refusal on the chip has.
-module _ (c : Chip) (out : List ℕ) (P : Turn → Type 0) (no : (k : ℕ) → P (refused (suc k) c out)) where
-  by-tx-head : (s : Send) (l : List ℕ) → ((k : ℕ) (rest : List ℕ) → l ≡ k ∷ rest → noPlace s c ≡ false → P (sendHead s k rest c out)) → P (byTxHead s l c out)
-  unfolding ifSendable
-  by-tx-head s [] h = no 11
-  by-tx-head s (k ∷ rest) h =
-      pick-unless P (usable (byteCount (pagesAt c k) (c .memory)) (length (pagesAt c k))) (λ u. no 12) (λ u. pick-by P (noPlace s c) (λ f. no 13) (h k rest refl))
-
+-- The same of turns, beside an output buffer.
+module _ (c : Chip) (out : List ℕ) (P : Turn → Type 0) where
   -- refusals 15, 11, 12, 13 and 14, else the head of TX is sent
-  pub by-send : (s : Send) → ((k : ℕ) (rest : List ℕ) → c .pool .tx ≡ k ∷ rest → noPlace s c ≡ false → P (sendHead s k rest c out)) → P (finish s c out)
-  unfolding finish
-  by-send s h =
-      pick P (ltb (length out) 2048) (no 14)
-      (pick-unless P (inLimits s) (λ l. no 10) (λ l. pick-unless P (bit 0 (c .regs .sending .tcr)) (λ e. no 11) (λ e. by-tx-head s (c .pool .tx) h)))
+  pub by-send : (s : Send) → P (refused 15 c out) → P (refused 11 c out) → P (refused 12 c out) → P (refused 13 c out) → P (refused 14 c out)
+      → ((k : ℕ) (rest : List ℕ) → c .pool .tx ≡ k ∷ rest → noPlace s c ≡ false → P (sendHead s k rest c out)) → P (finish s c out)
+  unfolding finish ifSendable
+  by-send s r15 r11 r12 r13 r14 h =
+      pick P (ltb (length out) 2048) r15
+      (pick-unless P (inLimits s) (λ l. r11) (λ l. pick-unless P (bit 0 (c .regs .sending .tcr)) (λ e. r12) (λ e. by-tx-head (c .pool .tx) h)))
+    where
+      by-tx-head : (l : List ℕ) → ((k : ℕ) (rest : List ℕ) → l ≡ k ∷ rest → noPlace s c ≡ false → P (sendHead s k rest c out)) → P (byTxHead s l c out)
+      by-tx-head [] f = r12
+      by-tx-head (k ∷ rest) f =
+          pick-unless P (usable (byteCount (pagesAt c k) (c .memory)) (length (pagesAt c k))) (λ u. r13) (λ u. pick-by P (noPlace s c) (λ t. r14) (f k rest refl))
 
-  -- refusal 16, else by the input
-  pub by-step : (n : ℕ) (i : Input) → P (serve i c out) → P (stepOf n i c out)
-  unfolding stepOf
-  by-step n i h = pick-unless P (fit n c) (λ f. no 15) (λ f. h)
+-- refusal 16, else by the input
+pub by-step : (c : Chip) (P : Turn → Type 0) (n : ℕ) (i : Input) → P (refused 16 c (lent i)) → P (serve i c) → P (stepOf n i c)
+unfolding stepOf
+by-step c P n i r16 h = pick-unless P (fit n c) (λ f. r16) (λ f. h)

@@ -9,7 +9,7 @@ use lib.ListN.{length, getD}
 use Rattle.rules.specs.Lists.{member, some?, owned}
 use Rattle.rules.specs.Chip.{Numbers, Pool, Chip}
 use Rattle.rules.specs.Answers.{refused}
-use Rattle.rules.specs.Step.{Input, serve, stepOf}
+use Rattle.rules.specs.Step.{Input, lent, serve, stepOf}
 use Rattle.rules.specs.WellFormed.{Above, Ascending, Distinct, GoodPages, GoodQueues, GoodNumbers, FormedAt}
 use Rattle.rules.specs.Tests.{above, ascends, allBelow, apart, noneOwned, pagesGood, queueGood, queuesGood, numbersGood, formed, fit}
 use Rattle.lists.specs.Facts.{if-not, Decides, agrees, always, is-true, is-false, _and_, _or_, lt-decides, le-decides, eq-decides, nobody}
@@ -158,11 +158,11 @@ unfolding fit
 fit-decides n c = agrees (eq-decides (length (c .memory)) (256 * n) and formed-decides n c) (λ w. (w .1, w .0)) (λ w. (w .1, w .0))
 
 -- So a step on such a chip goes by its input, and on any other is refusal 16.
-module _ (n : ℕ) (i : Input) (c : Chip) (out : List ℕ) where
-  pub step-fit : Fits n c → stepOf n i c out ≡ serve i c out
+module _ (n : ℕ) (i : Input) (c : Chip) where
+  pub step-fit : Fits n c → stepOf n i c ≡ serve i c
   unfolding stepOf
   step-fit w = rw (fit-decides n c .complete w)
 
-  pub step-unfit : (Fits n c → ⊥) → stepOf n i c out ≡ refused 16 c out
+  pub step-unfit : (Fits n c → ⊥) → stepOf n i c ≡ refused 16 c (lent i)
   unfolding stepOf
   step-unfit h = rw (if-not (fit n c) (λ t. h (fit-decides n c .sound t)))

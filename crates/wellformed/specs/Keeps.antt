@@ -13,7 +13,7 @@ use Rattle.rules.specs.Bits.{bit, lowByte}
 use Rattle.rules.specs.Lists.{member, some?, firstEmpty}
 use Rattle.rules.specs.Chip.{Registers, Chip, size, free, powered, powerUp}
 use Rattle.rules.specs.Fields.{setRx, setCompletion, inRegisters, inPool, inMemory}
-use Rattle.rules.specs.Answers.{Effect, Turn, refuse}
+use Rattle.rules.specs.Answers.{Effect, Turn}
 use Rattle.rules.specs.WellFormed.{Distinct, Formed, WellFormed}
 use Rattle.rules.specs.Packet.{putBytes}
 use Rattle.rules.specs.Mmu.{Command, nothing, allocate, reset, removeRx, removeAndRelease, release, enqueue, resetTx, unknown, decode, perform, allot}
@@ -63,9 +63,6 @@ module _ (n : ℕ) where
   Kept s = Fits n (s .chip)
 
   module _ (c : Chip) (w : Fits n c) where
-    no : (k : ℕ) → Kept (refuse (suc k) c)
-    no k = w
-
     -- The RX head is in range.
     head-small : (k : ℕ) (ks : List ℕ) → c .pool .rx ≡ k ∷ ks → k < n
     head-small k ks e = omega (arith, has-small (c .pool .pages) k (w .0 .queues .rxAllocated k (rw e (member-first k ks))), w .0 .count)
@@ -82,36 +79,36 @@ module _ (n : ℕ) where
         ))
         (λ e. (beside (w .0) (with-result (w .0 .numbers) 0x80 (inr refl)), w .1))
     keeps-perform reset v = (rw (w .0 .count) (emptied n (with-result (w .0 .numbers) 0x80 (inr refl))), w .1)
-    keeps-perform removeRx v = by-head c Kept no _ (c .pool .rx) (λ k ks e. (rx-popped (w .0) k ks e, w .1))
+    keeps-perform removeRx v = by-head c Kept _ (c .pool .rx) w (λ k ks e. (rx-popped (w .0) k ks e, w .1))
     keeps-perform removeAndRelease v =
-        by-head c Kept no _ (c .pool .rx)
+        by-head c Kept _ (c .pool .rx) w
         (λ k ks e. let q = w .0 .queues in
         let d : Distinct (k ∷ ks) = rw e at (q .rxDistinct) in
         let m : member k (c .pool .rx) ≡ true = rw e (member-first k ks) in
         (given-back (rx-popped (w .0) k ks e) k (head-small k ks e) (λ x. true≢false (sym x ∙ d .0)) (λ x. true≢false (sym x ∙ q .notBoth k m)), w .1))
     keeps-perform release v =
-        by-idle c Kept no _
+        by-idle c Kept _ w w
         (λ a r t. (
           given-back (w .0) (c .regs .numbers .packet) (omega (arith, has-small (c .pool .pages) (c .regs .numbers .packet) a, w .0 .count))
               (λ x. true≢false (sym x ∙ r)) (λ x. true≢false (sym x ∙ t)),
           w .1,
         ))
-    keeps-perform enqueue v = by-idle c Kept no _ (λ a r t. (tx-joined (w .0) (c .regs .numbers .packet) a r t, w .1))
+    keeps-perform enqueue v = by-idle c Kept _ w w (λ a r t. (tx-joined (w .0) (c .regs .numbers .packet) a r t, w .1))
     keeps-perform resetTx v = (tx-and-completion-emptied (w .0), w .1)
     keeps-perform unknown v = w
 
     -- Data accesses: only the pointer and bytes of memory change.
     keeps-read-data : (wide : ℕ) → Kept (readData wide c)
     unfolding readData
-    keeps-read-data wide = by-packet c Kept no _ (λ pages. by-tests c Kept no true wide pages _ w)
+    keeps-read-data wide = by-packet c Kept _ w w (λ pages. by-tests c Kept true wide pages _ w w w w)
 
     keeps-write-data : (bytes : List ℕ) → Kept (writeData bytes c)
     unfolding writeData
-    keeps-write-data bytes = by-packet c Kept no _ (λ pages. by-tests c Kept no false (length bytes) pages _ (w .0, length-put bytes _ pages (c .memory) ∙ w .1))
+    keeps-write-data bytes = by-packet c Kept _ w w (λ pages. by-tests c Kept false (length bytes) pages _ w w w (w .0, length-put bytes _ pages (c .memory) ∙ w .1))
 
     -- Registers.
     pub keeps-read : (r : Register) (p : Lanes) → Kept (readRegister r p c)
-    keeps-read = by-read c Kept no (λ v. w) (λ v. w) keeps-read-data
+    keeps-read = by-read c Kept w (λ v. w) (λ v. w) keeps-read-data
 
     -- Of the writes to RCR only a soft reset changes the pool.
     keeps-rcr : (x : ℕ) → Fits n (writeRcr x c)
@@ -141,17 +138,17 @@ module _ (n : ℕ) where
     keeps-write RCR p v = keeps-rcr (newRcr p v (c .regs .receiving .rcr))
     keeps-write ECR p v = w
     keeps-write MIR p v = w
-    keeps-write RESERVED p v = by-lanes c Kept no p _ w
+    keeps-write RESERVED p v = by-lanes c Kept p _ w w
     keeps-write (STATION k) p v = w
     keeps-write CONTROL p v = w
-    keeps-write COMMAND p v = by-lanes c Kept no p _ (keeps-perform (decode (lowByte v)) (decode-valid (lowByte v)))
-    keeps-write PACKET p v = by-lanes c Kept no p _ (beside (w .0) (with-packet (w .0 .numbers) (v % 64) (omega arith)), w .1)
+    keeps-write COMMAND p v = by-lanes c Kept p _ w (keeps-perform (decode (lowByte v)) (decode-valid (lowByte v)))
+    keeps-write PACKET p v = by-lanes c Kept p _ w (beside (w .0) (with-packet (w .0 .numbers) (v % 64) (omega arith)), w .1)
     keeps-write HEADS p v = w
     keeps-write POINTER p v = w
     keeps-write DATA p v = keeps-write-data (bytesOf p v)
     keeps-write INTERRUPT p v = keeps-interrupt p v
     keeps-write (TABLE k) p v = w
-    keeps-write BANK p v = by-lanes c Kept no p _ (beside (w .0) (with-bank (w .0 .numbers) (v % 8) (omega arith)), w .1)
+    keeps-write BANK p v = by-lanes c Kept p _ w (beside (w .0) (with-bank (w .0 .numbers) (v % 8) (omega arith)), w .1)
     keeps-write UNUSED p v = w
     keeps-write ABSENT p v = w
 
@@ -212,19 +209,19 @@ module _ (n : ℕ) (c : Chip) (w : Fits n c) where
 
   pub keeps-send : (s : Send) (out : List ℕ) → Turned (finish s c out)
   keeps-send s out =
-      by-send c out Turned (λ k. w) s
+      by-send c out Turned s w w w w w
       (λ k rest e f. keeps-head s k rest out e
       (λ b. omega (arith, leb-false (size c) (length (c .pool .completion)) (open-place (autoRelease (good (c .regs .sending .tcr) (s .outcome)) (c .regs)) _ f b), w .0 .count)))
 
-  keeps-serve : (i : Input) (out : List ℕ) → Turned (serve i c out)
+  keeps-serve : (i : Input) → Turned (serve i c)
   unfolding serve
-  keeps-serve (driver a) out = keeps-access n c w a
-  keeps-serve (frame f) out = keeps-arrive f
-  keeps-serve (sent s) out = keeps-send s out
+  keeps-serve (driver a) = keeps-access n c w a
+  keeps-serve (frame f) = keeps-arrive f
+  keeps-serve (sent s out) = keeps-send s out
 
   -- Every step.
-  pub keeps : (i : Input) (out : List ℕ) → Turned (stepOf n i c out)
-  keeps i out = by-step c out Turned (λ k. w) n i (keeps-serve i out)
+  pub keeps : (i : Input) → Turned (stepOf n i c)
+  keeps i = by-step c Turned n i w (keeps-serve i)
 
 -- Power-up.
 pub powered-fits : (n : ℕ) → Fits n (powered n)

@@ -16,8 +16,8 @@ use Rattle.chip.proofs.driver.accessed.Tie as tie
 enum-known-a : tie.Need-enum-known-a
 enum-known-a c = search needs
 
-as-told : {q k : Request} (c : Chip) {a : Answer} {w s u m : List ℕ} → q ≡ k → Right (step (driver (accessOf k)) c []) a w s u m [] → Right (step (driver (accessOf q)) c []) a w s u m []
-as-told c {a} {w} {s} {u} {m} e = subst (λ (j : Request). Right (step (driver (accessOf j)) c []) a w s u m []) (sym e)
+as-told : {q k : Request} (c : Chip) {a : Answer} {w s u m : List ℕ} → q ≡ k → Right (step (driver (accessOf k)) c) a w s u m [] → Right (step (driver (accessOf q)) c) a w s u m []
+as-told c {a} {w} {s} {u} {m} e = subst (λ (j : Request). Right (step (driver (accessOf j)) c) a w s u m []) (sym e)
 
 read-requires : tie.Need-read-requires
 read-requires c κs = search needs

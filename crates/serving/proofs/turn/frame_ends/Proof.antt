@@ -19,7 +19,7 @@ returns c =
     let n : s .args .have .now - 0 ≡ s .args .have .now = omega arith in
     let l = a .arrived .last in
     let e = ap (λ (k : ℕ). take k (s .args .wire .now)) n in
-    (subst (λ (x : List ℕ). Right (step (frame (frameOf x (s .args .crc) (s .args .align))) (view (s .args .words .now) (s .args .sets .now) (s .args .queues .now) (s .args .memory .now)) []) (a .arrived .result) (l .0) (l .1 .0) (l .1 .1 .0) (l .1 .1 .1 .0) []) e (a .arrived .ensures), refl)
+    (subst (λ (x : List ℕ). Right (step (frame (frameOf x (s .args .crc) (s .args .align))) (view (s .args .words .now) (s .args .sets .now) (s .args .queues .now) (s .args .memory .now))) (a .arrived .result) (l .0) (l .1 .0) (l .1 .1 .0) (l .1 .1 .1 .0) []) e (a .arrived .ensures), refl)
 
 pub frame-ends-spec : {M : Type 1} → statement M
 frame-ends-spec =
