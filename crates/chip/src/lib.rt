@@ -8,13 +8,11 @@ mod order; // order.rt: is a record in order, refusal 16
 
 pub use driver::Request;
 pub use driver::access;
-pub use driver::accessed;
 pub use driver::read;
 pub use driver::write;
 pub use entries::line;
 pub use entries::power_up;
 pub use frames::arrived;
 pub use frames::frame;
-pub use order::in_order;
 pub use sends::finished;
 pub use sends::send;

@@ -23,7 +23,7 @@ ghost use Rattle.state.specs.Promise.{Sets, QueuesIn, SetsIn, Sound, Ready, Mak
 ghost use Rattle.commands.specs.Orders.{Performs};
 
 // The commands of the MMU command register.
-pub enum Order {
+enum Order {
     Nothing,
     Allocate(u32),
     Reset,

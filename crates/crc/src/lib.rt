@@ -28,14 +28,14 @@ fn gone_out(byte: u32) -> u32
 }
 
 // A byte shifted in, its lowest bit first.
-pub fn byte_in(r: u32, byte: u8) -> u32
+fn byte_in(r: u32, byte: u8) -> u32
     ensures { λ s. ⌜ s ≡ crcBits 8 byte r ⌝ }
 {
     gone_out(r / 0x0100_0000 ^ mirrored(byte)) ^ r << 8
 }
 
 // The remainder r, taken on over the bytes.
-pub fn remainder_from(r: u32, bytes: &[u8]) -> u32
+fn remainder_from(r: u32, bytes: &[u8]) -> u32
     ensures { λ s. ⌜ s ≡ crcFrom r (now (bytes .entry)) ⌝ }
 {
     let mut s = r;

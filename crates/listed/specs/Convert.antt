@@ -18,7 +18,7 @@ use Rattle.state.specs.declared.Queues.{Queues}
 use Rattle.state.specs.View as lent
 use Rattle.state.specs.View.{word, bytes}
 use Rattle.state.specs.Entry.{InOrderBy}
-use Rattle.state.specs.Only.{wordsOf, Small, one-state}
+use Rattle.state.specs.Only.{wordsOf, one-state}
 use Rattle.listed.specs.declared.Page.{Page}
 use Rattle.listed.specs.declared.Registers.{Registers}
 use Rattle.listed.specs.Record.{used, mapOf, registersOf, poolOf, view, one-record}
@@ -93,13 +93,12 @@ ListedInOrder x mem = InOrder (x .registers) (x .pages) mem
 abbrev pub LentInOrder : Lent → List ℕ → Type 0
 LentInOrder y mem = InOrderBy (y .registers) (y .pages) (y .queues) mem
 
--- What the types say of the numbers; packets and pages of a record in order are below 24 in any case.
+-- What the types say of the numbers of registers; packets and pages of a record in order are below 24 in any case.
 abbrev pub ListedTyped : Listed → Type 0
 ListedTyped x = Typed (registersOf (x .registers))
 
-pub record LentTyped (y : Lent) : Type 0 where
-  pub words : Words (y .registers .words)
-  pub sets : Small (y .pages .sets)
+abbrev pub LentTyped : Lent → Type 0
+LentTyped y = Words (y .registers .words)
 
 -- To sets: the same chip, in order.
 module _ (x : Listed) (mem : List ℕ) (t : ListedTyped x) (o : ListedInOrder x mem) where
@@ -130,6 +129,7 @@ module _ (x : Listed) (mem : List ℕ) (t : ListedTyped x) (o : ListedInOrder x 
         sets = record {
           many = length-map (pool .pages) setOf ∙ o .ready .well .count;
           free = ap (λ (ls : List (List ℕ)). wordOf 24 (length (freeBelow 24 ls))) (sym (lists-sets (pool .pages) (o .ready .well .pages)));
+          small = lists-small (pool .pages) (o .ready .well .pages);
         };
       };
       well = subst WellFormed (sym (sets-chip [])) (o .ready .well);
@@ -138,10 +138,7 @@ module _ (x : Listed) (mem : List ℕ) (t : ListedTyped x) (o : ListedInOrder x 
   }
 
   pub sets-typed : LentTyped (toSets x)
-  sets-typed = record {
-    words = words-typed (registersOf r) t pool (o .ready .well);
-    sets = lists-small (pool .pages) (o .ready .well .pages);
-  }
+  sets-typed = words-typed (registersOf r) t pool (o .ready .well)
 
 -- To lists: the same chip, in order.
 module _ (y : Lent) (mem : List ℕ) (o : LentInOrder y mem) where
@@ -180,23 +177,22 @@ module _ (y : Lent) (mem : List ℕ) (o : LentInOrder y mem) where
       }
 
   pub lists-typed : LentTyped y → ListedTyped (toLists y)
-  lists-typed t = typed-words w (t .words)
+  lists-typed t = typed-words w t
 
 -- Records in order of the same chip convert into each other.
 listed-once : (x x′ : Listed) (mem mem′ : List ℕ) → ListedInOrder x mem → ListedInOrder x′ mem′ → listedChip x mem ≡ listedChip x′ mem′ → x ≡ x′
 listed-once x x′ mem mem′ o p e = let s = one-record (o .ready) (p .ready) e in λ i. record { registers = s .0 i; pages = s .1 i }
 
-lent-once : (y y′ : Lent) (mem mem′ : List ℕ) → LentInOrder y mem → LentInOrder y′ mem′ → Small (y .pages .sets) → Small (y′ .pages .sets)
-    → lentChip y mem ≡ lentChip y′ mem′ → y ≡ y′
-lent-once y y′ mem mem′ o p f g e =
-    let s = one-state (o .ready .sound) (p .ready .sound) f g e in
+lent-once : (y y′ : Lent) (mem mem′ : List ℕ) → LentInOrder y mem → LentInOrder y′ mem′ → lentChip y mem ≡ lentChip y′ mem′ → y ≡ y′
+lent-once y y′ mem mem′ o p e =
+    let s = one-state (o .ready .sound) (p .ready .sound) e in
     λ i. record { registers = record { words = s .0 i }; pages = record { sets = s .1 i }; queues = record { slots = s .2 i } }
 
 pub same-chip : (x : Listed) (y : Lent) (mem mem′ : List ℕ) → ListedInOrder x mem → LentInOrder y mem′ → LentTyped y → listedChip x mem ≡ lentChip y mem′ → Converts x y
 same-chip x y mem mem′ o p t e =
-    let u : ListedTyped x = subst Typed (sym (ap (λ (c : Chip). c .regs) e)) (typed-words (y .registers .words) (t .words)) in
+    let u : ListedTyped x = subst Typed (sym (ap (λ (c : Chip). c .regs) e)) (typed-words (y .registers .words) t) in
     record {
-      sets = lent-once (toSets x) y mem mem′ (sets-in-order x mem u o) p (sets-typed x mem u o .sets) (t .sets) (sets-chip x mem u o mem ∙ e);
+      sets = lent-once (toSets x) y mem mem′ (sets-in-order x mem u o) p (sets-chip x mem u o mem ∙ e);
       lists = listed-once (toLists y) x mem′ mem (lists-in-order y mem′ p) o (lists-chip y mem′ p mem′ ∙ sym e);
     }
 

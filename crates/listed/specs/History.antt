@@ -25,7 +25,7 @@ ListedRun [] x (x′ ∷ xs) = ⊥
 ListedRun (i ∷ is) x [] = ⊥
 ListedRun (i ∷ is) x (x′ ∷ xs) = ListedStep i (listedIn x) (x .memory) x′ × ListedRun is x′ xs
 
--- (and the numbers that it returns are of their types)
+-- (and the words that it returns are u16 numbers)
 abbrev pub LentRun : List Input → LentLeft → List LentLeft → Type 0
 LentRun [] y [] = Unit {0}
 LentRun [] y (y′ ∷ ys) = ⊥

@@ -4,7 +4,6 @@ use mathlib.Core.Bool.{true}
 use mathlib.Core.List.{List, [], _∷_}
 use Prim.Native.Nat.{ℕ, zero, suc, _+_, _-_, _*_, _/_, _%_, _^_, _≤_, _<_}
 use native.Mathlib.Nat.{add-suc}
-use native.Mathlib.Numerals.{add-one}
 use native.Mathlib.Omega.{arith}
 use lib.Count.{ones-le}
 use lib.ListN.{length, drop, getD, set, length-drop}
@@ -112,12 +111,6 @@ byte-at a i pages m e = ap (λ (j : ℕ). getD m j 0) e ∙ sym (value-one a pag
 pub word-of : (a : ℕ) (pages m : List ℕ) → wordOf (valueOf (getBytes 1 a pages m)) (valueOf (getBytes 1 (a + 1) pages m)) ≡ valueOf (getBytes 2 a pages m)
 unfolding wordOf
 word-of a pages m = sym (value-two a pages m)
-
--- Two bytes, one after the other.
-pub put-two : {between after : List ℕ} (x y a : ℕ) (pages m : List ℕ) → between ≡ putBytes (x ∷ []) a pages m → after ≡ putBytes (y ∷ []) (a + 1) pages between
-    → after ≡ putBytes (x ∷ y ∷ []) a pages m
-unfolding putBytes
-put-two x y a pages m e f = f ∙ ap (putBytes (y ∷ []) (a + 1) pages) e ∙ rw (add-one a)
 
 -- The next address of the same page lies next in memory.
 pub place-next : (a : ℕ) (pages : List ℕ) → (a % 256 ≡ 255 → ⊥) → place pages a + 1 ≡ place pages (a + 1)

@@ -48,14 +48,6 @@ pub fn read_word(memory: &[u8], pages: u32, at: Address) -> u16
     bits::word(memory[i], memory[i + 1])
 }
 
-pub fn write_byte(memory: &mut [u8], pages: u32, at: Address, value: u8)
-    requires { ⌜ Room (at .0 + 1) pages (now memory) ⌝ }
-    ensures { λ _. ⌜ now (memory .exit) ≡ putBytes (value ∷ []) (at .0) (pagesOf pages) (now (memory .entry)) ⌝ }
-{
-    let i = place_of(pages, at);
-    memory[i] = value;
-}
-
 // Two adjacent bytes, which the compiler writes in one move.
 pub fn put_word(memory: &mut [u8], i: usize, value: u16)
     requires { ⌜ i + 2 ≤ length (now memory) ⌝ }
@@ -63,18 +55,6 @@ pub fn put_word(memory: &mut [u8], i: usize, value: u16)
 {
     memory[i] = bits::low_byte(value);
     memory[i + 1] = bits::high_byte(value);
-}
-
-pub fn write_word(memory: &mut [u8], pages: u32, at: Address, value: u16)
-    requires { ⌜ Room (at .0 + 2) pages (now memory) ⌝ }
-    ensures { λ _. ⌜ now (memory .exit) ≡ putBytes (lowByte value ∷ highByte value ∷ []) (at .0) (pagesOf pages) (now (memory .entry)) ⌝ }
-{
-    if at.0 % 256 == 255 {
-        write_byte(memory, pages, at, bits::low_byte(value));
-        write_byte(memory, pages, Address(at.0 + 1), bits::high_byte(value));
-        return;
-    }
-    put_word(memory, place_of(pages, at), value);
 }
 
 // The status word stands at addresses 0 and 1.

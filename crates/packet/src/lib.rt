@@ -3,19 +3,8 @@ mod access; // access.rt: a byte or a word at an address
 mod fill; // fill.rt: a run of bytes, page by page
 mod frame; // frame.rt: a whole frame
 
-pub use access::place_in;
-pub use access::place_of;
-pub use access::put_word;
 pub use access::read_byte;
 pub use access::read_word;
-pub use access::write_byte;
 pub use access::write_status;
-pub use access::write_word;
 pub use fill::copy_out;
-pub use fill::copy_page;
-pub use fill::fill_page;
-pub use fill::fill_part;
-pub use frame::store_data;
 pub use frame::store_frame;
-pub use frame::write_head;
-pub use frame::write_trailer;

@@ -15,7 +15,7 @@ pub halves : (x y : ℕ) → x ≡ y → Halves (x % 65536) (x / 65536) y
 halves x y e = record { lower = ap (λ (n : ℕ). n % 65536) e; upper = ap (λ (n : ℕ). n / 65536) e }
 
 module _ {low high : ℕ} (l : List ℕ) (bits : ℕ) (e : bits ≡ low + high * 65536) (h : Halves low high (setOf l)) where
-  pub bits-are : bits ≡ setOf l
+  bits-are : bits ≡ setOf l
   bits-are = e ∙ whole h
 
   pub room : (k : ℕ) → MayJoin k l → bits + 2 ^ k < 2 ^ 32

@@ -11,13 +11,13 @@ use Rattle.wellformed.specs.Count.{free-set}
 use Rattle.sets.specs.Views.{pagesOf}
 use Rattle.sets.specs.Lists.{lists-length}
 use Rattle.state.specs.View.{word, figures, withMir}
-use Rattle.state.specs.Promise.{SetsIn}
+use Rattle.state.specs.Promise.{Small, SetsIn}
 use Rattle.state.specs.Stores.{Recounts}
 use Rattle.pool.specs.Pages.{Repages}
 
 module _ (f : List (List ℕ) → List (List ℕ)) (k : ℕ) (l w w′ s s′ : List ℕ) (y : ℕ)
     (r : Recounts (withMir y (figures w)) w w′) (h : SetsIn (figures w) s) (number : k < 24) (good : GoodPages 24 (map pagesOf s)) (after : GoodPages 24 (set (map pagesOf s) k l))
-    (pages : map pagesOf s′ ≡ f (map pagesOf s)) (one : f (map pagesOf s) ≡ set (map pagesOf s) k l)
+    (small : Small s′) (pages : map pagesOf s′ ≡ f (map pagesOf s)) (one : f (map pagesOf s) ≡ set (map pagesOf s) k l)
     (counted : y + 256 * length l ≡ word w 4 + 256 * length (getD (map pagesOf s) k [])) where
   mir : word w′ 4 ≡ y
   mir = ap (λ (c : List ℕ). word c 3) (r .counted)
@@ -38,5 +38,6 @@ module _ (f : List (List ℕ) → List (List ℕ)) (k : ℕ) (l w w′ s s′ : 
     sets = record {
       many = sym (lists-length s′) ∙ ap length (pages ∙ one) ∙ length-set (map pagesOf s) k l ∙ long;
       free = mir ∙ free ∙ ap (λ (ls : List (List ℕ)). wordOf 24 (length (freeBelow 24 ls))) (sym (pages ∙ one));
+      small = small;
     };
   }

@@ -1,3 +1,4 @@
 -- Changes of the queues and of the page sets.
 pub mod Queues
 pub mod Pages
+pub mod Once

@@ -1,8 +1,10 @@
 -- What a change of the page sets promises: the free count that is kept follows it.
 use mathlib.Core.Path.{_≡_, ap, subst, sym, _∙_}
 use mathlib.Core.List.{List, [], map}
-use Prim.Native.Nat.{ℕ, _≤_, _<_}
+use Prim.Native.Nat.{ℕ, _/_, _≤_, _<_}
+use native.Mathlib.Omega.{arith}
 use lib.ListN.{length, getD}
+use Rattle.rules.specs.Bits.{wordOf}
 use Rattle.rules.specs.Lists.{freeBelow}
 use Rattle.rules.specs.Chip.{Registers, Pool}
 use Rattle.rules.specs.Fields.{setPages, inPool}
@@ -45,3 +47,8 @@ module _ {f : List (List ℕ) → List (List ℕ)} {w s w′ s′ : List ℕ} (a
 
   pub repages-sound : QueuesIn (figures w) q → Sound w′ s′ q
   repages-sound h = record { kept = a .kept; queues = repages-queues h; sets = a .sets }
+
+-- MIR's high byte is the number of free pages.
+pub free-told : (w s : List ℕ) → SetsIn (figures w) s → word w 4 / 256 ≡ length (freeBelow 24 (map pagesOf s))
+unfolding wordOf
+free-told w s h = omega (arith, h .free)

@@ -1,10 +1,11 @@
 -- What a change of the queues promises, and what becomes of the three queues where the bytes of one are replaced.
 use mathlib.Core.Path.{_≡_, refl, ap, sym, subst, _∙_}
-use mathlib.Core.Bool.{true, false}
+use mathlib.Core.Bool.{true, false, _||_}
 use mathlib.Core.List.{List, [], _∷_, map}
 use Prim.Native.Nat.{ℕ, _<_}
 use native.Mathlib.Omega.{arith}
-use lib.ListN.{length, take, getD}
+use lib.ListN.{length, take, getD, replicate, length-replicate}
+use Rattle.rules.specs.Bits.{bit}
 use Rattle.rules.specs.Lists.{member, some?}
 use Rattle.rules.specs.Chip.{Registers, Pool, emptyPool}
 use Rattle.rules.specs.Fields.{setRx, setTx, setCompletion, inPool}
@@ -15,9 +16,11 @@ use Rattle.sets.specs.Views.{pagesOf}
 use Rattle.sets.specs.Members.{setOf}
 use Rattle.queues.specs.Slots.{Slots}
 use Rattle.queues.specs.Parts.{slots, replaced, replaced-long, replaced-same, replaced-other, slots-entries, slots-as}
-use Rattle.state.specs.View.{word, registersIn, figures, withRx, withTx, withCompletion, queueIn, poolIn, view, Kept}
+use Rattle.queues.specs.Changes.{slots-head}
+use Rattle.state.specs.View.{word, registersIn, figures, rxBits, txBits, withRx, withTx, withCompletion, queueIn, poolIn, view, Kept}
 use Rattle.state.specs.Promise.{Halves, QueuesIn, SetsIn, Sound, Ready}
 use Rattle.state.specs.Stores.{Recounts}
+use Rattle.state.specs.Counted.{queued-kept}
 
 -- packet k may join the entries l: all are packet numbers, and each stands there once
 pub record MayJoin (k : ℕ) (l : List ℕ) : Type 0 where
@@ -45,7 +48,7 @@ rejoins-chip {f} {w} {q} {w′} {q′} a s mem =
     ∙ ap (λ (p : Pool). record { regs = registersIn w; pool = p; memory = mem }) (a .pool s)
 
 pub rejoins-sets : {f : Pool → Pool} {w q w′ q′ s : List ℕ} → Rejoins f w q w′ q′ → SetsIn (figures w) s → SetsIn (figures w′) s
-rejoins-sets a e = record { many = e .many; free = a .free ∙ e .free }
+rejoins-sets a e = record { many = e .many; free = a .free ∙ e .free; small = e .small }
 
 pub rejoins-sound : {f : Pool → Pool} {w q w′ q′ s : List ℕ} → Rejoins f w q w′ q′ → SetsIn (figures w) s → Sound w′ s q′
 rejoins-sound a e = record { kept = a .kept; queues = a .queues; sets = rejoins-sets a e }
@@ -128,3 +131,11 @@ module _ {w s q : List ℕ} (r : Ready w s q) (k : ℕ) (number : k < 24) where
 
   pub may-join-tx : member k (queueIn 1 (word w 8) q) ≡ false → MayJoin k (queueIn 1 (word w 8) q)
   may-join-tx e = record { once = (e, r .well .queues .txDistinct); small = (number, small-entries _ (r .well .queues .txAllocated)) }
+
+-- The first byte of a queue that has entries is its head.
+pub head-told : (k count : ℕ) (q : List ℕ) → Slots (slots k q) count (queueIn k count q) → 0 < count → getD (slots k q) 0 0 ≡ getD (queueIn k count q) 0 0
+head-told k count q h some = slots-head (slots k q) count (queueIn k count q) h some
+
+-- A packet is in RX or TX where one of its kept bits is set.
+pub queued-told : {w s q : List ℕ} → Ready w s q → (k : ℕ) → bit k (rxBits w) || bit k (txBits w) ≡ member k (queueIn 0 (word w 6) q) || member k (queueIn 1 (word w 8) q)
+queued-told r k = queued-kept {mem = replicate 6144 0} (record { ready = r; full = length-replicate {A = ℕ} 6144 0 }) k

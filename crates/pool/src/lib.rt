@@ -22,43 +22,42 @@ use state::TX;
 use state::TX_COUNT;
 ghost use mathlib.Core.Path.{_≡_};
 ghost use mathlib.Core.Bool.{_||_};
-ghost use mathlib.Core.List.{List, [], _∷_, _++_};
-ghost use Prim.Native.Nat.{ℕ, _<_};
+ghost use mathlib.Core.List.{[], _∷_, _++_};
+ghost use Prim.Native.Nat.{_<_};
 ghost use lib.ListN.{length, getD, drop};
-ghost use Rattle.rules.specs.Lists.{member};
+ghost use Rattle.rules.specs.Bits.{bit};
 ghost use Rattle.rules.specs.Fields.{setRx, setTx, setCompletion};
-ghost use Rattle.state.specs.View.{word, figures, queueIn, Kept};
-ghost use Rattle.state.specs.Promise.{QueuesIn, Ready};
+ghost use Rattle.queues.specs.Parts.{slots};
+ghost use Rattle.state.specs.View.{word, figures, rxBits, txBits, queueIn, Kept};
+ghost use Rattle.state.specs.Promise.{QueuesIn};
 ghost use Rattle.pool.specs.Queues.{MayJoin, Rejoins, Emptied};
 
-// The head of RX.
+// The head of RX, and of TX and completion: the first of the queue's bytes (`head-told`: where it has entries).
 pub fn rx_head(queues: &[u8]) -> Packet
     requires { ⌜ length (now queues) ≡ 72 ⌝ }
-    ensures { λ r. ⌜ ((c : List ℕ) → QueuesIn c (now (queues .entry)) → 0 < word c 0 → r .0 ≡ getD (queueIn 0 (word c 0) (now (queues .entry))) 0 0) ⌝ }
+    ensures { λ r. ⌜ r .0 ≡ getD (slots 0 (now (queues .entry))) 0 0 ⌝ }
 {
     queues::head(&queues[RX..TX])
 }
 
-// The head of TX.
 pub fn tx_head(queues: &[u8]) -> Packet
     requires { ⌜ length (now queues) ≡ 72 ⌝ }
-    ensures { λ r. ⌜ ((c : List ℕ) → QueuesIn c (now (queues .entry)) → 0 < word c 1 → r .0 ≡ getD (queueIn 1 (word c 1) (now (queues .entry))) 0 0) ⌝ }
+    ensures { λ r. ⌜ r .0 ≡ getD (slots 1 (now (queues .entry))) 0 0 ⌝ }
 {
     queues::head(&queues[TX..COMPLETION])
 }
 
-// The head of completion.
 pub fn completion_head(queues: &[u8]) -> Packet
     requires { ⌜ length (now queues) ≡ 72 ⌝ }
-    ensures { λ r. ⌜ ((c : List ℕ) → QueuesIn c (now (queues .entry)) → 0 < word c 2 → r .0 ≡ getD (queueIn 2 (word c 2) (now (queues .entry))) 0 0) ⌝ }
+    ensures { λ r. ⌜ r .0 ≡ getD (slots 2 (now (queues .entry))) 0 0 ⌝ }
 {
     queues::head(&queues[COMPLETION..QUEUES_END])
 }
 
-// Is the packet in RX or TX?
+// Is the packet in RX or TX, by the kept bits (`queued-told`: those of the entries)?
 pub fn is_queued(words: &[u16], packet: Packet) -> bool
     requires { ⌜ (length (now words) ≡ 32) × (packet .0 < 32) ⌝ }
-    ensures { λ b. ⌜ ((s q : List ℕ) → Ready (now (words .entry)) s q → b ≡ member (packet .0) (queueIn 0 (word (now (words .entry)) 6) q) || member (packet .0) (queueIn 1 (word (now (words .entry)) 8) q)) ⌝ }
+    ensures { λ b. ⌜ b ≡ bit (packet .0) (rxBits (now (words .entry))) || bit (packet .0) (txBits (now (words .entry))) ⌝ }
 {
     let rx = rx_bits(words);
     let tx = tx_bits(words);

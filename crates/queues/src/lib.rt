@@ -1,17 +1,17 @@
 // Queues of packet numbers in a lent part of bytes, the head first; bytes behind the last entry are 0. The count is kept beside them.
+// Each contract says what becomes of the bytes; `specs/Parts` what that is of the entries.
 pub mod marks; // marks.rt: the packets of a queue as bits
 
 use sets::Packet;
 ghost use mathlib.Core.Path.{_≡_};
-ghost use mathlib.Core.List.{List, [], _∷_, _++_};
-ghost use Prim.Native.Nat.{ℕ, _+_, _-_, _≤_, _<_};
-ghost use lib.ListN.{drop, getD, length};
-ghost use Rattle.queues.specs.Slots.{Slots};
+ghost use mathlib.Core.List.{_∷_, _++_};
+ghost use Prim.Native.Nat.{_-_, _≤_, _<_};
+ghost use lib.ListN.{drop, getD, length, replicate, set, take};
 
 // The head.
 pub fn head(slots: &[u8]) -> Packet
     requires { ⌜ 0 < length (now slots) ⌝ }
-    ensures { λ r. ⌜ ((count : ℕ) (l : List ℕ) → Slots (now (slots .entry)) count l → 0 < count → r .0 ≡ getD l 0 0) ⌝ }
+    ensures { λ r. ⌜ r .0 ≡ getD (now (slots .entry)) 0 0 ⌝ }
 {
     Packet(slots[0])
 }
@@ -19,8 +19,7 @@ pub fn head(slots: &[u8]) -> Packet
 // One more entry, at the end.
 pub fn push(slots: &mut [u8], count: u16, packet: Packet)
     requires { ⌜ count < length (now slots) ⌝ }
-    ensures joined { λ _. ⌜ ((l : List ℕ) → Slots (now (slots .entry)) count l → Slots (now (slots .exit)) (count + 1) (l ++ (packet .0 ∷ []))) ⌝ }
-    ensures long { λ _. ⌜ length (now (slots .exit)) ≡ length (now (slots .entry)) ⌝ }
+    ensures { λ _. ⌜ now (slots .exit) ≡ set (now (slots .entry)) count (packet .0) ⌝ }
 {
     slots[count as usize] = packet.0;
 }
@@ -28,8 +27,7 @@ pub fn push(slots: &mut [u8], count: u16, packet: Packet)
 // The entries move up by one.
 pub fn pop(slots: &mut [u8], count: u16)
     requires { ⌜ (0 < count) × (count ≤ length (now slots)) ⌝ }
-    ensures left { λ _. ⌜ ((l : List ℕ) → Slots (now (slots .entry)) count l → Slots (now (slots .exit)) (count - 1) (drop 1 l)) ⌝ }
-    ensures long { λ _. ⌜ length (now (slots .exit)) ≡ length (now (slots .entry)) ⌝ }
+    ensures { λ _. ⌜ now (slots .exit) ≡ take (count - 1) (drop 1 (now (slots .entry))) ++ (0 ∷ drop count (now (slots .entry))) ⌝ }
 {
     let last = count as usize - 1;
     let mut i = 0;
@@ -42,8 +40,7 @@ pub fn pop(slots: &mut [u8], count: u16)
 
 // No entry is left.
 pub fn empty(slots: &mut [u8])
-    ensures none { λ _. ⌜ Slots (now (slots .exit)) 0 [] ⌝ }
-    ensures long { λ _. ⌜ length (now (slots .exit)) ≡ length (now (slots .entry)) ⌝ }
+    ensures { λ _. ⌜ now (slots .exit) ≡ replicate (length (now (slots .entry))) 0 ⌝ }
 {
     let mut i = 0;
     while i < slots.len() {

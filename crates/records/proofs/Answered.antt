@@ -5,7 +5,7 @@ use Prim.Native.Nat.{ℕ, _+_, _≤_, _<_}
 use native.Mathlib.Omega.{arith}
 use borrow.Author.Tests.{le-leb, lt-leb}
 use lib.ListN.{length, take, drop, length-drop}
-use lib.Seq.{length-take-le, paste, take-paste, drop-paste}
+use lib.Seq.{length-take-le, paste, length-paste, take-paste, drop-paste}
 use Rattle.rules.specs.Chip.{Chip}
 use Rattle.rules.specs.Answers.{done, refusal}
 use Rattle.rules.specs.Bench.{gather}
@@ -35,7 +35,7 @@ module _ (count : ℕ) (bytes had : List ℕ) where
 
 module _ (wire : List ℕ) (have : ℕ) (bytes : List ℕ) (count : ℕ) where
   pub keeps : have ≤ 2048 → Refuses count (drop 2 bytes) (take have wire) → Gathers wire have bytes count wire Refused
-  keeps h r = record { rule = r; room = h; rest = refl }
+  keeps h r = record { rule = r; room = h; rest = refl; size = refl }
 
   pub grows : length wire ≡ 2048 → length bytes ≡ 8 → 1 ≤ count → count ≤ 6 → have + count ≤ 2048
       → (after : List ℕ) → after ≡ paste wire have (drop 2 bytes) count → Gathers wire have bytes count after (More (have + count))
@@ -49,4 +49,5 @@ module _ (wire : List ℕ) (have : ℕ) (bytes : List ℕ) (count : ℕ) where
             ∙ ap (λ (x : List ℕ). record { reply = done; after = holding c x out }) (sym (ap (take (have + count)) e ∙ take-paste wire have (drop 2 bytes) count n m));
         room = l;
         rest = ap (drop (have + count)) e ∙ drop-paste wire have (drop 2 bytes) count n m;
+        size = ap length e ∙ length-paste wire have (drop 2 bytes) count (omega arith) m;
       }

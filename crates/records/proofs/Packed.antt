@@ -4,11 +4,14 @@ use mathlib.Core.List.{List, [], _∷_, _++_, append-assoc}
 use Prim.Native.Nat.{ℕ, zero, suc, _+_, _*_, _-_, _/_, _%_, _^_, _≤_, _<_}
 use native.Mathlib.Nat.{pow-suc, pow-le-pow-right, div-div-eq-div-mul}
 use native.Mathlib.Omega.{arith}
+use native.Mathlib.Decide.{decLe}
+use borrow.Author.Tests.{lt-ltb, le-ltb}
 use lib.ListN.{length, take, length-append}
 use Rattle.rules.specs.Bench.{decimal}
 use Rattle.records.specs.Decimal.{leading, leading-ends, decimal-ends, decimal-length, Bytes, decimal-bytes}
 use Rattle.records.specs.Word.{packed, bytes4, bytes8}
-use Rattle.records.specs.Counting.{Digits}
+use Rattle.records.specs.Counting.{ifShort, counterOf, Counts}
+use Rattle.records.specs.declared.count.Counter.{Counter}
 use Rattle.records.proofs.Hex.{above, below}
 
 -- Bytes that are packed are below the power that their count says.
@@ -114,25 +117,44 @@ module _ {number x text unit size : ℕ} (p : Packing number x text unit size) (
   pub packing-unit : number < 100000000 → unit ≤ 256 ^ 6
   packing-unit k = omega (arith, p .steps, more (size - 1) 6 (omega (arith, packing-short k)))
 
+-- The digits of a number below a hundred million, as its counter has them.
+pub record Digits (number text unit last size : ℕ) : Type 0 where
+  pub short : number < 100000000
+  pub packs : text ≡ packed (decimal number)
+  pub count : size ≡ length (decimal number)
+  pub ends : last ≡ number % 10
+  pub steps : unit ≡ 256 ^ (size - 1)
+
 pub packing-ends : {number x text unit size : ℕ} → Packing number x text unit size → x ≡ 0 → number < 100000000 → Digits number text unit (number % 10) size
 unfolding leading
 packing-ends {number} p e h =
     let all : decimal number ≡ p .digits = p .whole ∙ rw e in
-    record {
-      packs = p .packs ∙ ap packed (sym all);
-      count = p .count ∙ ap length (sym all);
-      fits = omega (arith, p .count, ap length all, decimal-length 7 number h);
-      ends = refl;
-      steps = p .steps;
-    }
+    record { short = h; packs = p .packs ∙ ap packed (sym all); count = p .count ∙ ap length (sym all); ends = refl; steps = p .steps }
+
+-- a counter from its parts
+abbrev counter : ℕ → ℕ → ℕ → ℕ → ℕ → Counter
+counter number text unit last size = record { number = number; text = text; unit = unit; last = last; length = size }
+
+-- What is kept of a short number, and of a long one.
+if-short : (number x : ℕ) → number < 100000000 → ifShort number x ≡ x
+unfolding ifShort
+if-short number x h = rw (lt-ltb number 100000000 h)
+
+if-long : (number x : ℕ) → 100000000 ≤ number → ifShort number x ≡ 0
+unfolding ifShort
+if-long number x h = rw (le-ltb number 100000000 h)
 
 module _ {number text unit last size : ℕ} (d : Digits number text unit last size) where
+  -- There are at most eight.
+  pub digits-few : size ≤ 8
+  digits-few = omega (arith, d .count, decimal-length 7 number (d .short))
+
   -- The digits as they stand in the text, which fits a word.
   pub digits-out : take size (bytes8 text) ≡ decimal number
-  digits-out = rw (d .packs, d .count) (unpacked (decimal number) (decimal-bytes number) (omega (arith, d .fits, d .count)))
+  digits-out = rw (d .packs, d .count) (unpacked (decimal number) (decimal-bytes number) (omega (arith, digits-few, d .count)))
 
   pub digits-fit : text < 256 ^ 8
-  digits-fit = omega (arith, d .packs, few (decimal number) 8 (decimal-bytes number) (omega (arith, d .fits, d .count)))
+  digits-fit = omega (arith, d .packs, few (decimal number) 8 (decimal-bytes number) (omega (arith, digits-few, d .count)))
 
   -- The next number has the same digits but for the last one, unless that is a 9.
   pub digits-next : last < 9 → Digits (number + 1) (text + unit) unit (last + 1) size
@@ -146,9 +168,42 @@ module _ {number text unit last size : ℕ} (d : Digits number text unit last si
       let n = length-append front (suc (0x30 + number % 10) ∷ []) in
       let u : unit ≡ 256 ^ length front = d .steps ∙ ap (λ (i : ℕ). 256 ^ i) (omega (arith, d .count, ap length (decimal-ends number), m)) in
       record {
+        short = omega (arith, d .short, k);
         packs = omega (arith, d .packs, u, packed-grows front (0x30 + number % 10), ap packed e, ap packed (decimal-ends number));
         count = omega (arith, d .count, ap length e, ap length (decimal-ends number), m, n);
-        fits = d .fits;
         ends = omega (arith, d .ends);
         steps = d .steps;
       }
+
+  -- They make the counter of the number.
+  pub digits-counted : counter number text unit last size ≡ counterOf number
+  digits-counted =
+      let kept : (x : ℕ) → x ≡ ifShort number x = λ x. sym (if-short number x (d .short)) in
+      let place : unit ≡ 256 ^ (length (decimal number) - 1) = d .steps ∙ ap (λ (i : ℕ). 256 ^ (i - 1)) (d .count) in
+      λ i. counter number ((d .packs ∙ kept _) i) ((place ∙ kept _) i) ((d .ends ∙ kept _) i) ((d .count ∙ kept _) i)
+
+-- From a hundred million on there are none.
+pub none-counted : (number : ℕ) → 100000000 ≤ number → counter number 0 0 0 0 ≡ counterOf number
+none-counted number h =
+    let none : (x : ℕ) → 0 ≡ ifShort number x = λ x. sym (if-long number x h) in
+    λ i. counter number (none (packed (decimal number)) i) (none (256 ^ (length (decimal number) - 1)) i) (none (number % 10) i) (none (length (decimal number)) i)
+
+-- A counter that has digits has its number's.
+pub has-digits : (c : Counter) → Counts c → 0 < c .length → Digits (c .number) (c .text) (c .unit) (c .last) (c .length)
+has-digits c e h = go (decLe 100000000 (c .number))
+  where
+    of : {A : Type 0} (f : Counter → A) → f c ≡ f (counterOf (c .number))
+    of f = ap f e
+
+    go : Dec (100000000 ≤ c .number) → Digits (c .number) (c .text) (c .unit) (c .last) (c .length)
+    go (yes l) = absurd (omega (arith, h, of (λ x. x .length), if-long (c .number) (length (decimal (c .number))) l))
+    go (no l) =
+        let short : c .number < 100000000 = omega (arith, l) in
+        let count : c .length ≡ length (decimal (c .number)) = of (λ x. x .length) ∙ if-short (c .number) _ short in
+        record {
+          short = short;
+          packs = of (λ x. x .text) ∙ if-short (c .number) _ short;
+          count = count;
+          ends = of (λ x. x .last) ∙ if-short (c .number) _ short;
+          steps = of (λ x. x .unit) ∙ if-short (c .number) _ short ∙ ap (λ (i : ℕ). 256 ^ (i - 1)) (sym count);
+        }

@@ -1,19 +1,34 @@
 -- A record number, and its digits beside it.
-use mathlib.Core.Path.{_≡_}
-use Prim.Native.Nat.{ℕ, _-_, _%_, _^_, _≤_, _<_}
+use mathlib.Core.Path.{_≡_, ap, sym, _∙_}
+use mathlib.Core.Bool.{cond}
+use Prim.Native.Nat.{ℕ, _-_, _%_, _^_}
+use lib.Dec.{ltb}
 use lib.ListN as list
 use Rattle.rules.specs.Bench.{decimal}
 use Rattle.records.specs.Word.{packed}
 use Rattle.records.specs.declared.count.Counter.{Counter}
 
--- the number's digits are in the text; the last of them is known, and what it stands for there
-pub record Digits (number text unit last length : ℕ) : Type 0 where
-  pub packs : text ≡ packed (decimal number)
-  pub count : length ≡ list.length (decimal number)
-  pub fits : length ≤ 8
-  pub ends : last ≡ number % 10
-  pub steps : unit ≡ 256 ^ (length - 1)
+-- what is known of a number's digits is kept below a hundred million; at and above that there is 0
+unfoldable pub ifShort : ℕ → ℕ → ℕ
+ifShort number x = cond (ltb number 100000000) x 0
 
--- so it is where the counter has digits at all
-pub record Counts (c : Counter) : Type 0 where
-  pub digits : 0 < c .length → Digits (c .number) (c .text) (c .unit) (c .last) (c .length)
+-- the counter of a number: its digits are in the text, and the last of them is known, and what it stands for there
+abbrev pub counterOf : ℕ → Counter
+counterOf number = record {
+  number = number;
+  text = ifShort number (packed (decimal number));
+  unit = ifShort number (256 ^ (list.length (decimal number) - 1));
+  last = ifShort number (number % 10);
+  length = ifShort number (list.length (decimal number));
+}
+
+-- so a counter is known from its number
+abbrev pub Counts : Counter → Type 0
+Counts c = c ≡ counterOf (c .number)
+
+-- The counter of a number has that number, and is its own number's.
+pub counter-number : {c : Counter} {n : ℕ} → c ≡ counterOf n → c .number ≡ n
+counter-number e = ap (λ (x : Counter). x .number) e
+
+pub counter-counts : {c : Counter} {n : ℕ} → c ≡ counterOf n → Counts c
+counter-counts e = e ∙ ap counterOf (sym (counter-number e))

@@ -16,17 +16,18 @@ use Rattle.state.specs.Stores.{store-rcr}
 use Rattle.state.specs.Written.{Written, written-out}
 use Rattle.pool.specs.Queues.{Emptied}
 use Rattle.registers.specs.Power.{resets-chip}
-use Rattle.registers.specs.Promises.{zeroBut, Resets, SoftResets}
+use Rattle.registers.specs.Promises.{zeroBut, WordsReset, SoftResets}
 
 -- what the stores leave
 abbrev resetWords : List ℕ → List ℕ
 resetWords w = set (set (set (set (zeroBut w) 5 0x3300) 7 0x3300) 13 4) 17 0x8000
 
-pub reset-to : (w : List ℕ) → length w ≡ 32 → Resets w (resetWords w)
+pub reset-to : (w : List ℕ) → length w ≡ 32 → WordsReset w (resetWords w)
 unfolding Written bit flag
-reset-to = written-out 32 (λ w. Resets w (resetWords w)) (λ a b c d e f g h i j k l m n o p q r s t u x y z a2 b2 c2 d2 e2 f2 g2 h2.
+reset-to = written-out 32 (λ w. WordsReset w (resetWords w)) (λ a b c d e f g h i j k l m n o p q r s t u x y z a2 b2 c2 d2 e2 f2 g2 h2.
     record {
       regs = refl;
+      none = refl;
       kept = record {
         whole = refl;
         fixed = record { bankHigh = refl; reservedHigh = refl; latched = refl; maskLow = refl };
@@ -49,7 +50,7 @@ pub soft-long : {w s q w′ w″ s″ q″ : List ℕ} → Sound w s q → Empti
 soft-long o e x = simp length-set (e .sound .kept .whole ∙ sym (o .kept .whole))
 
 -- all is reset but the station address and the memory
-pub soft : {w s q w′ w″ s″ q″ : List ℕ} → SetsIn (figures w) s → Resets w w′ → Emptied w′ w″ s″ q″ → SoftResets w s q (set w″ 2 0x8000) s″ q″
+pub soft : {w s q w′ w″ s″ q″ : List ℕ} → SetsIn (figures w) s → WordsReset w w′ → Emptied w′ w″ s″ q″ → SoftResets w s q (set w″ 2 0x8000) s″ q″
 soft {w} {s} {w″ = w″} {s″ = s″} {q″ = q″} h r e =
     let stored = store-rcr 0x8000 w″ (e .sound .kept) in
     let size = lists-length s ∙ h .many in

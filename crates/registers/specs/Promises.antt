@@ -1,5 +1,5 @@
 -- What an acknowledge and a reset promise.
-use mathlib.Core.Path.{_≡_}
+use mathlib.Core.Path.{_≡_, sym, _∙_}
 use mathlib.Core.Bool.{not, _&&_}
 use mathlib.Core.List.{List, _++_}
 use Prim.Native.Nat.{ℕ}
@@ -10,6 +10,7 @@ use Rattle.rules.specs.Interrupts.{acknowledge}
 use Rattle.rules.specs.Registers.{softReset}
 use Rattle.state.specs.View.{word, registersIn, figures, view, Latches, Kept}
 use Rattle.state.specs.Promise.{QueuesIn, Sound}
+use Rattle.state.specs.Only.{words-once}
 
 -- the latches x after an acknowledge by the low byte of v
 pub record Acknowledged (v x y : ℕ) : Type 0 where
@@ -28,10 +29,15 @@ pub record Acknowledges (v : ℕ) (w q w′ q′ : List ℕ) : Type 0 where
 abbrev pub zeroBut : List ℕ → List ℕ
 zeroBut w = replicate 10 0 ++ (take 3 (drop 10 w) ++ replicate 19 0)
 
--- the words after a reset that keeps the station address, but for the figures, which are reset with the pool
-pub record Resets (w w′ : List ℕ) : Type 0 where
+-- the words after a reset that keeps the station address; the figures are 0, until they are reset with the pool
+pub record WordsReset (w w′ : List ℕ) : Type 0 where
   pub regs : registersIn w′ ≡ resetRegisters (registersIn w .receiving .station)
+  pub none : figures w′ ≡ replicate 8 0
   pub kept : Kept w′
+
+-- there is one
+pub resets-once : {w w₁ w₂ : List ℕ} → WordsReset w w₁ → WordsReset w w₂ → w₁ ≡ w₂
+resets-once a b = words-once (a .kept) (b .kept) (a .regs ∙ sym (b .regs)) (a .none ∙ sym (b .none))
 
 -- the state after a soft reset
 pub record SoftResets (w s q w′ s′ q′ : List ℕ) : Type 0 where

@@ -64,7 +64,7 @@ fn gathered(rx: bool, completion: bool, latches: u16, granted: bool, eph: bool) 
         + (1 << flags::EPH_INT) * bits::flag_of(eph)
 }
 
-// Interrupt status.
+// Interrupt status. It and the line are those of the queues that the counts are right for, which are not looked at.
 pub fn status(words: &[u16]) -> u16
     requires { ⌜ Kept (now words) ⌝ }
     ensures shown { λ r. ⌜ ((s q mem : List ℕ) → QueuesIn (figures (now (words .entry))) q → r ≡ rules.status (view (now (words .entry)) s q mem)) ⌝ }
@@ -83,7 +83,7 @@ pub fn status(words: &[u16]) -> u16
 
 // Is the interrupt line up?
 pub fn line_up(words: &[u16]) -> bool
-    requires { ⌜ Kept (now words) ⌝ }
+    requires { ⌜ Kept (now words) × ((q : List ℕ) × QueuesIn (figures (now words)) q) ⌝ }
     ensures { λ b. ⌜ ((s q mem : List ℕ) → QueuesIn (figures (now (words .entry))) q → b ≡ rules.lineUp (view (now (words .entry)) s q mem)) ⌝ }
 {
     status(words) & (words[INTERRUPT] / 256) != 0
@@ -91,7 +91,7 @@ pub fn line_up(words: &[u16]) -> bool
 
 // Interrupt status, and the mask above it.
 pub fn interrupt(words: &[u16]) -> u16
-    requires { ⌜ Kept (now words) ⌝ }
+    requires { ⌜ Kept (now words) × ((q : List ℕ) × QueuesIn (figures (now words)) q) ⌝ }
     ensures { λ r. ⌜ ((s q mem : List ℕ) → QueuesIn (figures (now (words .entry))) q → r ≡ wordOf (rules.status (view (now (words .entry)) s q mem)) (registersIn (now (words .entry)) .mask)) ⌝ }
 {
     status(words) + words[INTERRUPT]
@@ -120,7 +120,7 @@ pub fn write_interrupt(
     offset: u8,
     value: u16,
 ) -> Answer
-    requires { ⌜ Kept (now words) × QueuesIn (figures (now words)) (now queues) × Placed width offset ⌝ }
+    requires { ⌜ Kept (now words) × QueuesIn (figures (now words)) (now queues) × Placed width offset × ((s : List ℕ) × SetsIn (figures (now words)) s) ⌝ }
     ensures done { λ a. ⌜ ((s mem : List ℕ) → SetsIn (figures (now (words .entry))) s → Makes (writeRegister INTERRUPT (lanesAt (widthOf width) offset) value (view (now (words .entry)) s (now (queues .entry)) mem)) a (now (words .exit)) s (now (queues .exit)) mem) ⌝ }
     ensures long { λ a. ⌜ (length (now (words .exit)) ≡ 32) × (length (now (queues .exit)) ≡ 72) ⌝ }
 {

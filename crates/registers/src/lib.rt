@@ -7,7 +7,6 @@ mod writes; // writes.rt: writes
 
 pub use interrupts::interrupt;
 pub use interrupts::line_up;
-pub use interrupts::status;
 pub use interrupts::write_interrupt;
 pub use reads::heads;
 pub use reads::read_ecr;

@@ -48,6 +48,7 @@ pub fn heads(words: &[u16], queues: &[u8]) -> u16
 // ECR is cleared, and EPHSR bit 12, after the value is taken.
 pub fn read_ecr(words: &mut [u16]) -> u16
     requires { ⌜ Kept (now words) ⌝ }
+    ensures value { λ r. ⌜ r ≡ word (now (words .entry)) 3 ⌝ }
     ensures done { λ r. ⌜ ((p : rules.Lanes) → Does (rules.readRegister rules.ECR p) (now (words .entry)) (Answer.Done (rules.taken p r)) (now (words .exit))) ⌝ }
     ensures long { λ r. ⌜ length (now (words .exit)) ≡ 32 ⌝ }
 {

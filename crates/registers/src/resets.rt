@@ -18,7 +18,7 @@ ghost use Rattle.rules.specs.Registers as rules;
 ghost use Rattle.state.specs.Meaning.{widthOf};
 ghost use Rattle.state.specs.View.{view};
 ghost use Rattle.state.specs.Promise.{Sound, Makes};
-ghost use Rattle.registers.specs.Promises.{zeroBut, Resets, SoftResets};
+ghost use Rattle.registers.specs.Promises.{zeroBut, WordsReset, SoftResets};
 
 // Every word is 0.
 fn zeroed(words: &mut [u16])
@@ -44,7 +44,7 @@ fn cleared_words(words: &mut [u16])
 // The reset values of all words but those of the station address, which stays.
 pub fn reset_words(words: &mut [u16])
     requires { ⌜ length (now words) ≡ 32 ⌝ }
-    ensures { λ _. ⌜ Resets (now (words .entry)) (now (words .exit)) ⌝ }
+    ensures { λ _. ⌜ WordsReset (now (words .entry)) (now (words .exit)) ⌝ }
 {
     cleared_words(words);
     words[RESERVED] = HIGH_33;

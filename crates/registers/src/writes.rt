@@ -20,7 +20,7 @@ ghost use Rattle.state.specs.Writes.{Plain};
 
 // A register that is a word, at its place.
 pub fn write_word(words: &mut [u16], at: usize, width: Width, offset: u8, value: u16) -> Answer
-    requires { ⌜ Kept (now words) × (at < 32) ⌝ }
+    requires { ⌜ Kept (now words) × (at < 32) × ((r : rules.Register) × Plain r at) ⌝ }
     ensures done { λ a. ⌜ ((r : rules.Register) → Plain r at → Does (rules.writeRegister r (rules.lanesAt (widthOf width) offset) value) (now (words .entry)) a (now (words .exit))) ⌝ }
     ensures long { λ a. ⌜ length (now (words .exit)) ≡ 32 ⌝ }
 {

@@ -1,5 +1,5 @@
 -- What a send promises: the rules' turn, of the answer and of the state, memory and output left behind. And what each part of it has done.
-use mathlib.Core.Path.{_≡_}
+use mathlib.Core.Path.{_≡_, sym, _∙_}
 use mathlib.Core.Bool.{Bool, cond, not, _||_}
 use mathlib.Core.List.{List}
 use Prim.Native.Nat.{ℕ, _+_, _*_, _^_}
@@ -15,6 +15,7 @@ use Rattle.state.specs.declared.Answer.{Answer}
 use Rattle.state.specs.Meaning.{replyOf}
 use Rattle.state.specs.View.{word, figures, view, Kept}
 use Rattle.state.specs.Promise.{QueuesIn, Sound}
+use Rattle.state.specs.Only.{one-state, one-answer}
 
 -- the answer, with state, memory and output after it, is what the turn says
 pub record Sends (t : Turn) (a : Answer) (w s q mem out : List ℕ) : Type 0 where
@@ -22,6 +23,13 @@ pub record Sends (t : Turn) (a : Answer) (w s q mem out : List ℕ) : Type 0 whe
   pub reply : replyOf a ≡ t .reply
   pub output : out ≡ t .output
   pub sound : Sound w s q
+
+-- there is one
+pub sends-once : {t : Turn} {a a′ : Answer} {w s q mem out w′ s′ q′ mem′ out′ : List ℕ} → Sends t a w s q mem out → Sends t a′ w′ s′ q′ mem′ out′
+    → (a ≡ a′) × (w ≡ w′) × (s ≡ s′) × (q ≡ q′) × (mem ≡ mem′) × (out ≡ out′)
+sends-once {a = a} {a′ = a′} x y =
+    let e = one-state (x .sound) (y .sound) (x .chip ∙ sym (y .chip)) in
+    (one-answer a a′ (x .reply ∙ sym (y .reply)), e .0, e .1, e .2, e .3, x .output ∙ sym (y .output))
 
 -- the bytes are put out over the front of a buffer, and their number is returned
 pub record PutsOut (bytes before after : List ℕ) (n : ℕ) : Type 0 where

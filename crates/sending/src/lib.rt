@@ -11,14 +11,14 @@ mod finish; // finish.rt: all of it, with its refusals
 pub use finish::finished;
 
 // How a send ended, as its input says; `sendOf` gives the rules' record of it.
-pub struct Send {
+struct Send {
     pub outcome: u8,
     pub collisions: u8,
     pub deferral: u8,
 }
 
 // The nibbles of ECR, lowest first: good after one collision; two or more; deferral 1; deferral 2.
-pub struct Tally {
+struct Tally {
     pub single: u16,
     pub several: u16,
     pub deferred: u16,

@@ -2,3 +2,4 @@
 pub mod Turns
 pub mod Batch
 pub mod Printed
+pub mod Once

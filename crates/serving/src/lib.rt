@@ -3,6 +3,4 @@ mod turn; // turn.rt: one step of the bench
 mod batch; // batch.rt: the records at hand, and the line of each
 mod serve; // serve.rt: reading, answering and writing until the input ends
 
-pub use batch::answer_all;
 pub use serve::run;
-pub use turn::answer;

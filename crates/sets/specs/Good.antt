@@ -58,6 +58,13 @@ once-sum n (s ∷ ss) h f =
 pub never : {P : Type 0} → (P → ⊥) → Decides false P
 never f = record { sound = λ t. absurd (true≢false (sym t)); complete = λ q. absurd (f q) }
 
+-- what is decided has one answer
+pub decides-once : {a b : Bool} {P : Type 0} → Decides a P → Decides b P → a ≡ b
+decides-once {a = true} {b = true} x y = refl
+decides-once {a = true} {b = false} x y = sym (y .complete (x .sound refl))
+decides-once {a = false} {b = true} x y = x .complete (y .sound refl)
+decides-once {a = false} {b = false} x y = refl
+
 -- Over the number of pages.
 module _ (n : ℕ) where
   -- What is asked of the sets.

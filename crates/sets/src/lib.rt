@@ -5,14 +5,11 @@ mod set; // set.rt: one packet's pages
 pub use map::Checked;
 pub use map::audit;
 pub use map::cleared;
-pub use map::free_set;
 pub use map::granted;
 pub use map::lowest_unallocated;
-pub use map::owned_set;
 pub use map::released;
 pub use map::set_of;
 pub use set::has_pages;
-pub use set::lowest;
 pub use set::lowest_page;
 pub use set::nth_page;
 pub use set::page_count;

@@ -3,7 +3,7 @@ use crate::Packet;
 use crate::set::lowest;
 use std::num::wrapping_add_u32;
 ghost use mathlib.Core.Path.{_≡_};
-ghost use mathlib.Core.Bool.{true};
+ghost use mathlib.Core.Bool.{cond};
 ghost use mathlib.Core.List.{[], map};
 ghost use Prim.Native.Nat.{ℕ, _<_};
 ghost use lib.Count.{ones};
@@ -148,14 +148,14 @@ fn joined(sets: &[u32]) -> Rows
     Rows(a, b, c, d, sum)
 }
 
-// Are the page lists what document 01 asks, and how many pages are free?
+// Are the page lists what document 01 asks, and how many pages are free? 0 where they are not.
 pub struct Checked(pub bool, pub u32);
 
 // The sum is the join exactly where no page is in two sets. The sets are counted one by one only where more than 8 pages stand in one of the four joins.
 pub fn audit(sets: &[u32]) -> Checked
     requires { ⌜ length (now sets) ≡ 24 ⌝ }
     ensures good { λ r. ⌜ Decides (r .0) (GoodPages 24 (map pagesOf (now (sets .entry)))) ⌝ }
-    ensures free { λ r. ⌜ (r .0 ≡ true → r .1 ≡ length (freeBelow 24 (map pagesOf (now (sets .entry))))) ⌝ }
+    ensures free { λ r. ⌜ r .1 ≡ cond (r .0) (length (freeBelow 24 (map pagesOf (now (sets .entry))))) 0 ⌝ }
 {
     let j = joined(sets);
     let owned = (j.0 | j.1) | (j.2 | j.3);
@@ -171,7 +171,10 @@ pub fn audit(sets: &[u32]) -> Checked
         return Checked(true, free);
     }
     if crowded(j.0) | crowded(j.1) | crowded(j.2) | crowded(j.3) {
-        return Checked(few_each(sets), free);
+        if few_each(sets) {
+            return Checked(true, free);
+        }
+        return Checked(false, 0);
     }
     Checked(true, free)
 }

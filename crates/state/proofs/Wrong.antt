@@ -1,20 +1,21 @@
 -- Records with one wrong figure, computed: none is in order, so every entry that promises `Answers` gives 16. RX has packet 0 with pages 0 and 1, TX packet 17 with page 2.
 use mathlib.Core.Path.{_≡_, refl, ap}
 use mathlib.Core.List.{List, [], _∷_, _++_}
-use Prim.Native.Nat.{ℕ}
+use Prim.Native.Nat.{ℕ, _^_, _<_}
 use native.Mathlib.Omega.{arith}
 use lib.ListN.{set, replicate}
 use Rattle.rules.specs.Bits.{bit, flag, wordOf}
 use Rattle.rules.specs.Lists.{member, some?, owned, unless, freeBelow}
 use Rattle.rules.specs.Tests.{above, ascends, allBelow, apart, noneOwned, pagesGood, queueGood, queuesGood, numbersGood, formed}
 use Rattle.rules.specs.Step.{Input}
-use Rattle.wellformed.specs.Fit.{formed-decides}
+use Rattle.lists.specs.Each.{each-at}
+use Rattle.wellformed.specs.Fit.{below-decides, formed-decides}
 use Rattle.sets.specs.Views.{pagesOf, bitsBelow}
 use Rattle.sets.specs.Members.{setOf}
 use Rattle.state.specs.declared.Answer.the-variants.{Damaged}
 use Rattle.state.specs.declared.Returned.{Returned}
 use Rattle.state.specs.View.{figures, poolIn, view}
-use Rattle.state.specs.Promise.{Ready}
+use Rattle.state.specs.Promise.{Small, Ready}
 use Rattle.state.specs.Entry.{Answers}
 use Rattle.state.specs.Counted.{FullCount}
 
@@ -41,6 +42,11 @@ right = record {
   inTx = record { lower = refl; upper = refl };
 }
 
+-- its sets are numbers of 32 bits
+small : Small sets
+unfolding allBelow
+small i = each-at (λ x. x < 2 ^ 32) sets i 0 (below-decides (2 ^ 32) sets .sound refl) (omega arith)
+
 -- and it is in order
 pub ready : Ready words sets queues
 unfolding formed pagesGood ascends above allBelow noneOwned queuesGood queueGood apart numbersGood some? flag pagesOf bitsBelow bit freeBelow owned member unless wordOf setOf
@@ -59,7 +65,7 @@ ready = record {
       inRx = right .inRx;
       inTx = right .inTx;
     };
-    sets = record { many = refl; free = right .mir };
+    sets = record { many = refl; free = right .mir; small = small };
   };
   well = formed-decides 24 (view words sets queues []) .sound refl;
 }

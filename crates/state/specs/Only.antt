@@ -1,19 +1,17 @@
 -- A state is known from the chip that it stands for: its words from the registers and a count of the pool, its sets from their pages, its queues' bytes
--- from their entries. So there is only one result of a public entry: two that meet its promise are equal.
+-- from their entries. So there is only one result of a public entry, and of a step below one: two that meet its promise are equal.
 use mathlib.Core.Path.{_≡_, refl, ap, ap₂, sym, _∙_}
-use mathlib.Core.HLevel.{Discrete}
-use mathlib.Core.List.{List, [], _∷_, _++_, map, List-discrete}
-use Prim.Native.Nat.{ℕ, _+_, _*_, _-_, _/_, _%_, _^_, _<_}
+use mathlib.Core.List.{List, [], _∷_, _++_, map}
+use Prim.Native.Nat.{ℕ, _+_, _*_, _-_, _/_, _%_, _<_}
 use native.Mathlib.Omega.{arith}
-use native.Mathlib.Decide.{ℕ-discrete}
 use lib.ListN.{length, getD, take, drop, replicate, take-append-drop, length-drop}
 use lib.Seq.{ext-getD, take-all, drop-drop}
 use Rattle.rules.specs.Bits.{flag, wordOf, wordAt}
 use Rattle.rules.specs.Lists.{freeBelow}
 use Rattle.rules.specs.Chip.{Chip}
 use Rattle.rules.specs.Chip as rules
-use Rattle.rules.specs.Answers.{Reply, Turn}
-use Rattle.rules.specs.Step.{Input, step}
+use Rattle.rules.specs.Answers.{Reply, Effect, Turn}
+use Rattle.rules.specs.Step.{Input}
 use Rattle.sets.specs.Views.{pagesOf}
 use Rattle.sets.specs.Pages.{pages-one}
 use Rattle.sets.specs.Members.{setOf}
@@ -29,23 +27,24 @@ use Rattle.state.specs.declared.Returned.{Returned}
 use Rattle.state.specs.Meaning.{replyOf}
 use Rattle.state.specs.View.{word, registersIn, figures, queueIn, poolIn, view, FixedIn, BlankIn, Kept}
 use Rattle.state.specs.Written.{Written, written-out}
-use Rattle.state.specs.Promise.{QueuesIn, Sound}
-use Rattle.state.specs.Counted.{FullCount, full-count}
+use Rattle.state.specs.Promise.{QueuesIn, Small, Sound, Makes, Sets, Does}
+use Rattle.state.specs.Counted.{full-count}
 use Rattle.state.specs.Entry.{InOrderBy, Right, Answers}
+use Rattle.state.specs.Decided.{decided}
 
--- The words of registers beside a pool, whose figures are counted.
-abbrev pub wordsOf : rules.Registers → rules.Pool → List ℕ
-wordsOf r p =
+-- The words of registers, and of figures beside them.
+abbrev wordsWith : rules.Registers → List ℕ → List ℕ
+wordsWith r c =
     r .sending .tcr
     ∷ r .sending .ephsr
     ∷ r .receiving .rcr
     ∷ r .sending .ecr
-    ∷ wordOf 24 (length (freeBelow 24 (p .pages)))
+    ∷ word c 3
     ∷ wordOf (r .receiving .reserved) 0x33
-    ∷ length (p .rx)
+    ∷ word c 0
     ∷ wordOf (r .numbers .bank) 0x33
-    ∷ length (p .tx)
-    ∷ length (p .completion)
+    ∷ word c 1
+    ∷ word c 2
     ∷ wordAt 0 (r .receiving .station)
     ∷ wordAt 2 (r .receiving .station)
     ∷ wordAt 4 (r .receiving .station)
@@ -64,11 +63,27 @@ wordsOf r p =
     ∷ wordAt 2 (r .receiving .table)
     ∷ wordAt 4 (r .receiving .table)
     ∷ wordAt 6 (r .receiving .table)
+    ∷ word c 4
+    ∷ word c 5
+    ∷ word c 6
+    ∷ word c 7
+    ∷ []
+
+-- The figures of a pool, counted; and the words of registers beside it.
+abbrev counts : rules.Pool → List ℕ
+counts p =
+    length (p .rx)
+    ∷ length (p .tx)
+    ∷ length (p .completion)
+    ∷ wordOf 24 (length (freeBelow 24 (p .pages)))
     ∷ (setOf (p .rx) % 65536)
     ∷ (setOf (p .rx) / 65536)
     ∷ (setOf (p .tx) % 65536)
     ∷ (setOf (p .tx) / 65536)
     ∷ []
+
+abbrev pub wordsOf : rules.Registers → rules.Pool → List ℕ
+wordsOf r p = wordsWith r (counts p)
 
 halves : (x : ℕ) → x ≡ wordOf (x % 256) (x / 256)
 unfolding wordOf
@@ -82,16 +97,25 @@ fixed-low : (x : ℕ) → x % 256 ≡ 0 → x ≡ wordOf 0 (x / 256)
 unfolding wordOf
 fixed-low x e = omega arith
 
-abbrev Known : rules.Pool → List ℕ → Type 0
-Known pool w = FixedIn w → BlankIn w → FullCount (figures w) pool → w ≡ wordsOf (registersIn w) pool
+abbrev Known : List ℕ → Type 0
+Known w = FixedIn w → BlankIn w → w ≡ wordsWith (registersIn w) (figures w)
 
--- kept words are those of their registers and of a pool that their figures count
-pub words-known : (pool : rules.Pool) (w : List ℕ) → Kept w → FullCount (figures w) pool → w ≡ wordsOf (registersIn w) pool
+-- kept words are those of their registers and figures
+words-known : (w : List ℕ) → Kept w → w ≡ wordsWith (registersIn w) (figures w)
 unfolding Written wordAt
-words-known pool w k = written-out 32 (Known pool) (λ a b c d e f g h i j k l m n o p q r s t u v x y z a2 b2 c2 d2 e2 f2 g2 fix blank full.
-    λ ι. a ∷ b ∷ c ∷ d ∷ full .mir ι ∷ fixed-high f (fix .reservedHigh) ι ∷ full .rx ι ∷ fixed-high h (omega (arith, fix .bankHigh)) ι ∷ full .tx ι ∷ full .completion ι
+words-known w k = written-out 32 Known (λ a b c d e f g h i j k l m n o p q r s t u v x y z a2 b2 c2 d2 e2 f2 g2 fix blank.
+    λ ι. a ∷ b ∷ c ∷ d ∷ e ∷ fixed-high f (fix .reservedHigh) ι ∷ g ∷ fixed-high h (omega (arith, fix .bankHigh)) ι ∷ i ∷ j
     ∷ halves k ι ∷ halves l ι ∷ halves m ι ∷ fix .latched ι ∷ o ∷ blank .none15 ι ∷ blank .none16 ι ∷ halves r ι ∷ blank .none18 ι ∷ t ∷ blank .none20 ι ∷ blank .none21 ι
-    ∷ fixed-low x (fix .maskLow) ι ∷ blank .none23 ι ∷ halves z ι ∷ halves a2 ι ∷ halves b2 ι ∷ halves c2 ι ∷ full .inRx .lower ι ∷ full .inRx .upper ι ∷ full .inTx .lower ι ∷ full .inTx .upper ι ∷ []) w (k .whole) (k .fixed) (k .blank)
+    ∷ fixed-low x (fix .maskLow) ι ∷ blank .none23 ι ∷ halves z ι ∷ halves a2 ι ∷ halves b2 ι ∷ halves c2 ι ∷ d2 ∷ e2 ∷ f2 ∷ g2 ∷ []) w (k .whole) (k .fixed) (k .blank)
+
+pub words-once : {w w′ : List ℕ} → Kept w → Kept w′ → registersIn w ≡ registersIn w′ → figures w ≡ figures w′ → w ≡ w′
+words-once {w} {w′} k k′ r f = words-known w k ∙ ap₂ wordsWith r f ∙ sym (words-known w′ k′)
+
+-- and the figures of a sound state are counted from its pool
+figures-known : {w s q : List ℕ} → Sound w s q → figures w ≡ counts (poolIn (figures w) s q)
+figures-known o =
+    let full = full-count o in
+    λ i. full .rx i ∷ full .tx i ∷ full .completion i ∷ full .mir i ∷ full .inRx .lower i ∷ full .inRx .upper i ∷ full .inTx .lower i ∷ full .inTx .upper i ∷ []
 
 -- The bytes of a queue's entries, with 0 behind them, and of three queues.
 abbrev pub padded : List ℕ → List ℕ
@@ -114,25 +138,19 @@ queues-known c q h =
     ∙ ap₂ (λ (x y : List ℕ). x ++ (y ++ slots 2 q)) (known 0 (word c 0) (omega arith) (h .rx)) (known 1 (word c 1) (omega arith) (h .tx))
     ∙ ap (λ (x : List ℕ). padded (queueIn 0 (word c 0) q) ++ (padded (queueIn 1 (word c 1) q) ++ x)) (known 2 (word c 2) (omega arith) (h .completion))
 
--- Numbers of 32 bits, as the sets are: known from their pages.
-abbrev pub Small : List ℕ → Type 0
-Small s = (i : ℕ) → getD s i 0 < 2 ^ 32
-
-pub sets-one : (s t : List ℕ) → Small s → Small t → map pagesOf s ≡ map pagesOf t → s ≡ t
-sets-one s t f g e =
+-- Sets are known from their pages.
+pub sets-known : (s t : List ℕ) → Small s → Small t → map pagesOf s ≡ map pagesOf t → s ≡ t
+sets-known s t f g e =
     ext-getD 0 s t (sym (lists-length s) ∙ ap length e ∙ lists-length t)
     (λ i h. pages-one (getD s i 0) (getD t i 0) (f i) (g i) (sym (list-at s i) ∙ ap (λ (l : List (List ℕ)). getD l i []) e ∙ list-at t i))
 
 -- The view is one-to-one on sound states.
-module _ {w s q mem w′ s′ q′ mem′ : List ℕ} (a : Sound w s q) (b : Sound w′ s′ q′) (f : Small s) (g : Small s′) (e : view w s q mem ≡ view w′ s′ q′ mem′) where
+module _ {w s q mem w′ s′ q′ mem′ : List ℕ} (a : Sound w s q) (b : Sound w′ s′ q′) (e : view w s q mem ≡ view w′ s′ q′ mem′) where
   of : {A : Type 0} (h : Chip → A) → h (view w s q mem) ≡ h (view w′ s′ q′ mem′)
   of h = ap h e
 
   same-words : w ≡ w′
-  same-words =
-      words-known (poolIn (figures w) s q) w (a .kept) (full-count a)
-      ∙ of (λ c. wordsOf (c .regs) (c .pool))
-      ∙ sym (words-known (poolIn (figures w′) s′ q′) w′ (b .kept) (full-count b))
+  same-words = words-once (a .kept) (b .kept) (of (λ c. c .regs)) (figures-known a ∙ of (λ c. counts (c .pool)) ∙ sym (figures-known b))
 
   same-queues : q ≡ q′
   same-queues =
@@ -141,7 +159,7 @@ module _ {w s q mem w′ s′ q′ mem′ : List ℕ} (a : Sound w s q) (b : Sou
       ∙ sym (queues-known (figures w′) q′ (b .queues))
 
   pub one-state : (w ≡ w′) × (s ≡ s′) × (q ≡ q′) × (mem ≡ mem′)
-  one-state = (same-words, sets-one s s′ f g (of (λ c. c .pool .pages)), same-queues, of (λ c. c .memory))
+  one-state = (same-words, sets-known s s′ (a .sets .small) (b .sets .small) (of (λ c. c .pool .pages)), same-queues, of (λ c. c .memory))
 
 -- Answers are known from their replies.
 answerOf : Reply → Answer
@@ -191,51 +209,41 @@ answer-back CutShort = refl
 pub one-answer : (a b : Answer) → replyOf a ≡ replyOf b → a ≡ b
 one-answer a b e = sym (answer-back a) ∙ ap answerOf e ∙ answer-back b
 
--- Two results, with memory and output, are the same.
+-- Of a step below a public entry there is one result too: of the effect e, of the turn t, of a step that looks at the registers alone, of a change of the registers.
+module _ {a a′ : Answer} {w s q mem w′ s′ q′ mem′ : List ℕ} where
+  pub makes-once : {e : Effect} → Makes e a w s q mem → Makes e a′ w′ s′ q′ mem′ → (a ≡ a′) × (w ≡ w′) × (s ≡ s′) × (q ≡ q′) × (mem ≡ mem′)
+  makes-once x y = let e = one-state (x .sound) (y .sound) (x .chip ∙ sym (y .chip)) in (one-answer a a′ (x .reply ∙ sym (y .reply)), e .0, e .1, e .2, e .3)
+
+  pub right-once : {t : Turn} {out out′ : List ℕ} → Right t a w s q mem out → Right t a′ w′ s′ q′ mem′ out′ → (a ≡ a′) × (w ≡ w′) × (s ≡ s′) × (q ≡ q′) × (mem ≡ mem′) × (out ≡ out′)
+  right-once x y =
+      let e = one-state (x .ready .ready .sound) (y .ready .ready .sound) (x .chip ∙ sym (y .chip)) in
+      (one-answer a a′ (x .reply ∙ sym (y .reply)), e .0, e .1, e .2, e .3, x .output ∙ sym (y .output))
+
+pub does-once : {f : Chip → Effect} {w w₁ w₂ : List ℕ} {a b : Answer} → Does f w a w₁ → Does f w b w₂ → (a ≡ b) × (w₁ ≡ w₂)
+does-once {a = a} {b = b} x y =
+    let e = x .step [] [] [] ∙ sym (y .step [] [] []) in
+    (one-answer a b (ap (λ (d : Effect). d .reply) e), words-once (x .kept) (y .kept) (ap (λ (d : Effect). d .chip .regs) e) (x .still ∙ sym (y .still)))
+
+pub sets-once : {f : rules.Registers → rules.Registers} {w w₁ w₂ : List ℕ} → Sets f w w₁ → Sets f w w₂ → w₁ ≡ w₂
+sets-once x y = words-once (x .kept) (y .kept) (x .regs ∙ sym (y .regs)) (x .still ∙ sym (y .still))
+
+-- Two results of a public entry, with memory and output, are the same.
 pub record Same (x y : Returned) (mem mem′ out out′ : List ℕ) : Type 0 where
   pub returned : x ≡ y
   pub memory : mem ≡ mem′
   pub output : out ≡ out′
 
--- the numbers of a result's sets are u32s
-abbrev pub SmallIn : Returned → Type 0
-SmallIn x = Small (x .pages .sets)
-
-right-once : (t : Turn) (x y : Returned) (mem mem′ out out′ : List ℕ) → SmallIn x → SmallIn y
-    → Right t (x .answer) (x .registers .words) (x .pages .sets) (x .queues .slots) mem out
-    → Right t (y .answer) (y .registers .words) (y .pages .sets) (y .queues .slots) mem′ out′ → Same x y mem mem′ out out′
-right-once t x y mem mem′ out out′ f g p q =
-    let a = one-answer (x .answer) (y .answer) (p .reply ∙ sym (q .reply)) in
-    let e = one-state (p .ready .ready .sound) (q .ready .ready .sound) f g (p .chip ∙ sym (q .chip)) in
-    record {
-      returned = λ i. record { answer = a i; registers = record { words = e .0 i }; pages = record { sets = e .1 i }; queues = record { slots = e .2 i } };
-      memory = e .3;
-      output = p .output ∙ sym (q .output);
-    }
-
--- What follows where P holds, and where it does not, follows, if it is an equation between things that can be told apart.
-either : {A : Type 0} → Discrete A → (x y : A) (P : Type 0) → (P → x ≡ y) → ((P → ⊥) → x ≡ y) → x ≡ y
-either d x y P f g = go (d x y)
-  where
-    go : Dec (x ≡ y) → x ≡ y
-    go (yes e) = e
-    go (no n) = g (λ p. n (f p))
-
-same-either : (x y : Returned) (mem mem′ out out′ : List ℕ) (P : Type 0) → (P → Same x y mem mem′ out out′) → ((P → ⊥) → Same x y mem mem′ out out′) → Same x y mem mem′ out out′
-same-either x y mem mem′ out out′ P f g =
-    let number : (h : Returned → ℕ) → h x ≡ h y = λ h. either ℕ-discrete (h x) (h y) P (λ p. ap h (f p .returned)) (λ n. ap h (g n .returned)) in
-    let list : (h : Returned → List ℕ) → h x ≡ h y = λ h. either (List-discrete ℕ-discrete) (h x) (h y) P (λ p. ap h (f p .returned)) (λ n. ap h (g n .returned)) in
-    let a = one-answer (x .answer) (y .answer) (λ i. record { number = number (λ r. replyOf (r .answer) .number) i; value = number (λ r. replyOf (r .answer) .value) i }) in
-    record {
-      returned = λ i. record { answer = a i; registers = record { words = list (λ r. r .registers .words) i }; pages = record { sets = list (λ r. r .pages .sets) i }; queues = record { slots = list (λ r. r .queues .slots) i } };
-      memory = either (List-discrete ℕ-discrete) mem mem′ P (λ p. f p .memory) (λ n. g n .memory);
-      output = either (List-discrete ℕ-discrete) out out′ P (λ p. f p .output) (λ n. g n .output);
-    }
-
 -- Only one result: answer, words, sets, queues, memory and output.
-pub only : (i : Input) (r : Registers) (p : Pages) (k : Queues) (mem : List ℕ) (x y : Returned) (mem₁ mem₂ out₁ out₂ : List ℕ) → SmallIn x → SmallIn y
+pub only : (i : Input) (r : Registers) (p : Pages) (k : Queues) (mem : List ℕ) (x y : Returned) (mem₁ mem₂ out₁ out₂ : List ℕ)
     → Answers i r p k mem x mem₁ out₁ → Answers i r p k mem y mem₂ out₂ → Same x y mem₁ mem₂ out₁ out₂
-only i r p k mem x y mem₁ mem₂ out₁ out₂ f g a b =
-    same-either x y mem₁ mem₂ out₁ out₂ (InOrderBy r p k mem)
-    (λ w. right-once (step i (view (r .words) (p .sets) (k .slots) mem)) x y mem₁ mem₂ out₁ out₂ f g (a .done w) (b .done w))
-    (λ n. let u = a .broken n in let v = b .broken n in record { returned = u .same ∙ sym (v .same); memory = u .memory ∙ sym (v .memory); output = u .output ∙ sym (v .output) })
+only i r p k mem x y mem₁ mem₂ out₁ out₂ a b = go (decided (r .words) (p .sets) (k .slots) mem)
+  where
+    go : Dec (InOrderBy r p k mem) → Same x y mem₁ mem₂ out₁ out₂
+    go (yes o) =
+        let e = right-once (a .done o) (b .done o) in
+        record {
+          returned = λ j. record { answer = e .0 j; registers = record { words = e .1 j }; pages = record { sets = e .2 j }; queues = record { slots = e .3 j } };
+          memory = e .4;
+          output = e .5;
+        }
+    go (no n) = let u = a .broken n in let v = b .broken n in record { returned = u .same ∙ sym (v .same); memory = u .memory ∙ sym (v .memory); output = u .output ∙ sym (v .output) }

@@ -1,8 +1,8 @@
 -- What a step over the lent state promises.
-use mathlib.Core.Path.{_≡_, refl, ap, sym, subst, _∙_}
+use mathlib.Core.Path.{_≡_, ap, sym, subst, _∙_}
 use mathlib.Core.List.{List, map}
-use Prim.Native.Nat.{ℕ, _/_, _%_}
-use lib.ListN.{length}
+use Prim.Native.Nat.{ℕ, _/_, _%_, _^_, _<_}
+use lib.ListN.{length, getD}
 use Rattle.rules.specs.Bits.{wordOf}
 use Rattle.rules.specs.Lists.{freeBelow}
 use Rattle.rules.specs.Chip.{Registers, Chip}
@@ -32,10 +32,15 @@ pub record QueuesIn (c q : List ℕ) : Type 0 where
   pub inRx : Halves (word c 4) (word c 5) (setOf (queueIn 0 (word c 0) q))
   pub inTx : Halves (word c 6) (word c 7) (setOf (queueIn 1 (word c 1) q))
 
+-- Numbers of 32 bits, as the sets are: so they are known from their pages.
+abbrev pub Small : List ℕ → Type 0
+Small s = (i : ℕ) → getD s i 0 < 2 ^ 32
+
 -- 24 page sets, and MIR has 24 and, above it, how many pages are in none of them
 pub record SetsIn (c s : List ℕ) : Type 0 where
   pub many : length s ≡ 24
   pub free : word c 3 ≡ wordOf 24 (length (freeBelow 24 (map pagesOf s)))
+  pub small : Small s
 
 -- the state is laid out as it must be: one state for each chip
 pub record Sound (w s q : List ℕ) : Type 0 where
@@ -59,9 +64,6 @@ pub record Sets (f : Registers → Registers) (w w′ : List ℕ) : Type 0 where
   pub regs : registersIn w′ ≡ f (registersIn w)
   pub still : figures w′ ≡ figures w
   pub kept : Kept w′
-
-pub sets-nothing : (w : List ℕ) → Kept w → Sets (λ r. r) w w
-sets-nothing w k = record { regs = refl; still = refl; kept = k }
 
 -- one after another
 pub sets-both : {f g : Registers → Registers} {w w′ w″ : List ℕ} → Sets f w w′ → Sets g w′ w″ → Sets (λ r. g (f r)) w w″

@@ -28,7 +28,7 @@ use Rattle.sets.specs.Members.{setOf, set-members, set-small}
 use Rattle.queues.specs.Slots.{Slots}
 use Rattle.queues.specs.Parts.{slots, part-long}
 use Rattle.state.specs.View.{word, registersIn, queueIn, Latches, Kept}
-use Rattle.state.specs.Promise.{Halves, Ready}
+use Rattle.state.specs.Promise.{Halves, Small, Ready}
 use Rattle.state.specs.Counted.{whole, halves}
 use Rattle.state.specs.WellFormed.{SetsFormed, QueuesFormed, NumbersFormed, FixedBytes, FiguresFormed, RecordFormed, slotAt, pagesIn}
 
@@ -165,13 +165,13 @@ record SlotsIn (a b c : ℕ) (q : List ℕ) : Type 0 where
   tx : Slots (slots 1 q) b (queueIn 1 b q)
   completion : Slots (slots 2 q) c (queueIn 2 c q)
 
-module _ (s : List ℕ) (fits : (i : ℕ) → getD s i 0 < 2 ^ 32) where
-  pub sets-restated : SetsFormed s ↔ ((length s ≡ 24) × GoodPages 24 (map pagesOf s))
-  sets-restated = (
-    λ f. (f .count, as-lists 24 s fits (record { within = f .within; atMost = f .atMost; once = f .once })),
-    λ g. let h = as-sets 24 s fits (g .1) in record { count = g .0; once = h .once; within = h .within; atMost = h .atMost },
-  )
+pub sets-restated : (s : List ℕ) → SetsFormed s ↔ ((length s ≡ 24) × Small s × GoodPages 24 (map pagesOf s))
+sets-restated s = (
+  λ f. let fits : Small s = λ i. omega (arith, f .within i) in (f .count, fits, as-lists 24 s fits (record { within = f .within; atMost = f .atMost; once = f .once })),
+  λ g. let h = as-sets 24 s (g .1) (g .2) in record { count = g .0; once = h .once; within = h .within; atMost = h .atMost },
+)
 
+module _ (s : List ℕ) (fits : Small s) where
   -- allocated: the set is not 0
   has : (k : ℕ) → 0 < getD s k 0 → some? (getD (map pagesOf s) k []) ≡ true
   has k h = some-at s k (fits k) h
@@ -257,7 +257,7 @@ module _ (low high : ℕ) (l : List ℕ) (distinct : Distinct l) where
   set-as-bits h k = ap (bit k) (whole h) ∙ set-members l distinct k
 
 -- Pages counted set by set are those that the packets have.
-pages-counted : (s : List ℕ) → ((i : ℕ) → getD s i 0 < 2 ^ 32) → pagesIn s ≡ total (map pagesOf s)
+pages-counted : (s : List ℕ) → Small s → pagesIn s ≡ total (map pagesOf s)
 unfolding total
 pages-counted [] fits = refl
 pages-counted (x ∷ xs) fits = omega (arith, pages-count x (fits 0), pages-counted xs (λ i. fits (suc i)))
@@ -266,7 +266,7 @@ pages-counted (x ∷ xs) fits = omega (arith, pages-count x (fits 0), pages-coun
 small-entries : (s : List ℕ) (l : List ℕ) → length s ≡ 24 → ((k : ℕ) → member k l ≡ true → some? (getD (map pagesOf s) k []) ≡ true) → (k : ℕ) → member k l ≡ true → k < 24
 small-entries s l long h k m = omega (arith, has-small (map pagesOf s) k (h k m), lists-length s, long)
 
-module _ (w s q : List ℕ) (typed : (i : ℕ) → word w i < 65536) (fits : (i : ℕ) → getD s i 0 < 2 ^ 32) (long : length s ≡ 24) (pages : GoodPages 24 (map pagesOf s))
+module _ (w s q : List ℕ) (typed : (i : ℕ) → word w i < 65536) (fits : Small s) (long : length s ≡ 24) (pages : GoodPages 24 (map pagesOf s))
     (queues : GoodQueues 24 (map pagesOf s) (queueIn 0 (word w 6) q) (queueIn 1 (word w 8) q) (queueIn 2 (word w 9) q)) where
   free-counted : length (freeBelow 24 (map pagesOf s)) + pagesIn s ≡ 24
   free-counted = omega (arith, free-and-total 24 (map pagesOf s) pages, pages-counted s fits)
@@ -304,29 +304,30 @@ words-restated w = (
   ),
 )
 
--- So the record is as it says here exactly where the public entries take it for a sound one of a well-formed chip: of words and sets that are u16 and u32 numbers.
-pub restated : (w s q : List ℕ) → ((i : ℕ) → word w i < 65536) → ((i : ℕ) → getD s i 0 < 2 ^ 32) → RecordFormed w s q ↔ Ready w s q
-restated w s q typed fits = (
+-- So the record is as it says here exactly where the public entries take it for a sound one of a well-formed chip: of words that are u16 numbers.
+pub restated : (w s q : List ℕ) → ((i : ℕ) → word w i < 65536) → RecordFormed w s q ↔ Ready w s q
+restated w s q typed = (
   λ f.
       let words = words-restated w .0 (f .fixed, f .numbers) in
-      let pages = sets-restated s fits .0 (f .sets) in
-      let queues = queues-as-lists s fits (word w 6) (word w 8) (word w 9) q (f .queues) in
-      let figures = figures-as-count w s q typed fits (pages .0) (pages .1) (queues .1) (f .figures) in
+      let pages = sets-restated s .0 (f .sets) in
+      let queues = queues-as-lists s (pages .1) (word w 6) (word w 8) (word w 9) q (f .queues) in
+      let figures = figures-as-count w s q typed (pages .1) (pages .0) (pages .2) (queues .1) (f .figures) in
       record {
         sound = record {
           kept = words .0;
           queues = record { long = queues .0 .long; rx = queues .0 .rx; tx = queues .0 .tx; completion = queues .0 .completion; inRx = figures .1; inTx = figures .2 };
-          sets = record { many = pages .0; free = figures .0 };
+          sets = record { many = pages .0; free = figures .0; small = pages .1 };
         };
-        well = record { count = lists-length s ∙ pages .0; pages = pages .1; numbers = words .1; queues = queues .1 };
+        well = record { count = lists-length s ∙ pages .0; pages = pages .2; numbers = words .1; queues = queues .1 };
       },
   λ r.
       let words = words-restated w .1 (r .sound .kept, r .well .numbers) in
+      let sets = r .sound .sets in
       record {
         fixed = words .0;
         numbers = words .1;
-        sets = sets-restated s fits .1 (r .sound .sets .many, r .well .pages);
-        queues = queues-as-bytes s fits (word w 6) (word w 8) (word w 9) q (record { long = r .sound .queues .long; rx = r .sound .queues .rx; tx = r .sound .queues .tx; completion = r .sound .queues .completion }, r .well .queues);
-        figures = count-as-figures w s q typed fits (r .sound .sets .many) (r .well .pages) (r .well .queues) (r .sound .sets .free) (r .sound .queues .inRx) (r .sound .queues .inTx);
+        sets = sets-restated s .1 (sets .many, sets .small, r .well .pages);
+        queues = queues-as-bytes s (sets .small) (word w 6) (word w 8) (word w 9) q (record { long = r .sound .queues .long; rx = r .sound .queues .rx; tx = r .sound .queues .tx; completion = r .sound .queues .completion }, r .well .queues);
+        figures = count-as-figures w s q typed (sets .small) (sets .many) (r .well .pages) (r .well .queues) (sets .free) (r .sound .queues .inRx) (r .sound .queues .inTx);
       },
 )

@@ -11,7 +11,7 @@ use Rattle.sets.specs.Views.{pagesOf}
 use Rattle.sets.specs.Lists.{lists-length}
 use Rattle.state.specs.View.{view}
 use Rattle.state.specs.Promise.{sets-chip, sets-sound}
-use Rattle.pool.specs.Pages.{Grantable, repages-chip, repages-sound}
+use Rattle.pool.specs.Pages.{Grantable, repages-chip, repages-sound, free-told}
 use Rattle.commands.proofs.Steps.{allocates, allocates-none, grantable}
 use Rattle.commands.proofs.Returns.{performs}
 use borrow.Author.Needs.{needs}
@@ -25,7 +25,7 @@ full s = lists-length (s .args .sets .now) ∙ s .pre .3 .many
 counted : (c : tie.After-free-count) → let ls = map pagesOf (c .before .before .before .before .args .sets .now) in c .free-count .result ≡ length (freeBelow (length ls) ls)
 counted c =
     let s = c .before .before .before .before in
-    c .free-count .ensures (s .args .sets .now) (s .pre .3) ∙ sym (ap (λ (j : ℕ). length (freeBelow j (map pagesOf (s .args .sets .now)))) (full s))
+    c .free-count .ensures ∙ free-told (s .args .words .now) (s .args .sets .now) (s .pre .3) ∙ sym (ap (λ (j : ℕ). length (freeBelow j (map pagesOf (s .args .sets .now)))) (full s))
 
 -- enough pages are free, so a number is, and it may get them
 enough : (c : tie.Then1) → let a = c .before .before .before .before .before .args in let ls = map pagesOf (a .sets .now) in a .need ≤ length (freeBelow (length ls) ls)
@@ -35,7 +35,7 @@ may : (c : tie.Then1) → let a = c .before .before .before .before .before .arg
 may c =
     let a = c .before in
     let s = a .before .before .before .before in
-    grantable (map pagesOf (s .args .sets .now)) (s .args .need) (full s) (s .pre .4) (s .pre .0) (s .pre .1) (omega (arith, a .free-count .ensures (s .args .sets .now) (s .pre .3), c .if1 .taken))
+    grantable (map pagesOf (s .args .sets .now)) (s .args .need) (full s) (s .pre .4) (s .pre .0) (s .pre .1) (omega (arith, a .free-count .ensures, free-told (s .args .words .now) (s .args .sets .now) (s .pre .3), c .if1 .taken))
 
 cast-k : tie.Need-cast-k
 cast-k c = record { fits = omega (arith, may (c .before .before) .number, c .lowest-unallocated .ensures) }

@@ -1,6 +1,6 @@
 -- Words, page sets and queues, each decided by its test; and MIR by the pages that are counted free.
-use mathlib.Core.Path.{_≡_, _∙_}
-use mathlib.Core.Bool.{true}
+use mathlib.Core.Path.{_≡_, ap, _∙_}
+use mathlib.Core.Bool.{Bool, true, cond}
 use mathlib.Core.List.{map}
 use Prim.Native.Nat.{ℕ, _≤_}
 use native.Mathlib.Omega.{arith}
@@ -13,6 +13,7 @@ use Rattle.lists.specs.Facts.{refutes, agrees, free-few}
 use Rattle.sets.specs.Views.{pagesOf}
 use Rattle.sets.specs.Lists.{lists-length}
 use Rattle.sets.specs.Good.{never}
+use Rattle.state.specs.Promise.{Small}
 use Rattle.guard.proofs.well_formed.Statement.{statement}
 use Rattle.guard.proofs.well_formed.Tie as tie
 
@@ -37,7 +38,7 @@ module _ (e : tie.Else2) where
   good = not-false _ (e .if2 .left)
 
   counted : a .audit .result .1 ≡ free
-  counted = a .audit .ensures .1 good
+  counted = a .audit .ensures .1 ∙ ap (λ (b : Bool). cond b free 0) good
 
   few : a .audit .result .1 ≤ 24
   few = omega (arith, counted, free-few 24 (map pagesOf (s .args .sets .now)))
@@ -62,9 +63,10 @@ returns-4 c =
     let e = m .before .before .before in
     let b = a e .before in
     let words = b .before .words-good .ensures .sound (not-false _ (b .if1 .left)) in
+    let small : Small (s e .args .sets .now) = λ i. omega (arith, b .before .before .before .shared-slice-known2 .given i) in
     agrees (c .queues-good .ensures)
     (λ g. record {
-      sound = record { kept = words .0; queues = g .0; sets = record { many = s e .pre .1; free = omega (arith, m .if3 .left, counted e) } };
+      sound = record { kept = words .0; queues = g .0; sets = record { many = s e .pre .1; free = omega (arith, m .if3 .left, counted e); small = small } };
       well = record { count = lists-length (s e .args .sets .now) ∙ s e .pre .1; pages = a e .audit .ensures .0 .sound (good e); numbers = words .1; queues = g .1 };
     })
     (λ r. (r .sound .queues, r .well .queues))

@@ -4,7 +4,7 @@ use Rattle.pool.proofs.completion_head.Statement.{statement}
 use Rattle.pool.proofs.completion_head.Tie as tie
 
 returns : tie.Need-returns
-returns c = λ figures h some. c .head .ensures _ _ (h .completion) some
+returns c = c .head .ensures
 
 pub completion-head-spec : {M : Type 1} → statement M
 completion-head-spec =

@@ -3,7 +3,8 @@ use mathlib.Core.Path.{refl, _∙_}
 use native.Mathlib.Omega.{arith}
 use borrow.Author.Needs.{needs}
 use Rattle.sets.specs.Members.{setOf}
-use Rattle.queues.specs.Parts.{part-long}
+use Rattle.queues.specs.Parts.{slots, part-long}
+use Rattle.queues.specs.Changes.{emptied}
 use Rattle.state.specs.View.{figures}
 use Rattle.pool.specs.Queues.{rejoined, requeued-tx}
 use Rattle.pool.proofs.Marks.{halves}
@@ -14,10 +15,10 @@ returns : tie.Need-returns
 unfolding setOf
 returns c =
     let j = c .before .before .before .before .before in
-    let u = j .before .empty .ensures in
     let s = j .before .before .before .before .before in
     let h = s .pre .1 in
     let q = s .args .queues .now in
+    let u = emptied (slots 1 q) _ (j .before .empty .ensures) in
     rejoined (c .before .before .store-tx .ensures) refl
     (requeued-tx (figures (s .args .words .now)) q _ _ _ h (u .0) (u .1 ∙ part-long 1 q (h .long) (omega arith)) _ _ (halves 0 0 refl))
 

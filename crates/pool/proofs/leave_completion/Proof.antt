@@ -2,6 +2,7 @@
 use mathlib.Core.Path.{refl, _∙_}
 use native.Mathlib.Omega.{arith}
 use Rattle.queues.specs.Parts.{part-long}
+use Rattle.queues.specs.Changes.{popped}
 use Rattle.state.specs.View.{figures}
 use Rattle.state.specs.Stores.{store-completion}
 use Rattle.pool.specs.Queues.{rejoined, requeued-completion}
@@ -12,11 +13,11 @@ use Rattle.pool.proofs.leave_completion.Tie as tie
 returns : tie.Need-returns
 returns c =
     let s = c .before .before .before .before .before .before .before in
-    let u = c .before .before .pop .ensures in
     let h = s .pre .1 in
     let w = s .args .words .now in
     let q = s .args .queues .now in
-    rejoined (store-completion _ w (s .pre .0)) refl (requeued-completion (figures w) q _ _ _ h (u .0 _ (h .completion)) (u .1 ∙ part-long 2 q (h .long) (omega arith)))
+    let u = popped _ _ _ _ (c .before .before .pop .ensures) (s .pre .2) (h .completion) in
+    rejoined (store-completion _ w (s .pre .0)) refl (requeued-completion (figures w) q _ _ _ h (u .0) (u .1 ∙ part-long 2 q (h .long) (omega arith)))
 
 pub leave-completion-spec : {M : Type 1} → statement M
 leave-completion-spec =

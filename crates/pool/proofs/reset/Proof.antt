@@ -1,6 +1,7 @@
 use mathlib.Core.Path.{ap, _∙_}
 use mathlib.Core.List.{List, []}
 use Prim.Native.Nat.{ℕ}
+use native.Mathlib.Omega.{arith}
 use borrow.Author.Needs.{needs}
 use lib.ListN.{replicate}
 use Rattle.pool.proofs.Emptied.{emptied}
@@ -13,7 +14,8 @@ returns c =
     let e = n .before .before .before .before in
     let all = e .before .before .before .before in
     let s = all .before .before .before .before .before in
-    emptied (n .store-none .ensures) (all .cleared .ensures ∙ ap (λ (n : ℕ). replicate {A = List ℕ} n []) (s .pre .1)) (e .empty .ensures .1 ∙ s .pre .2) (e .empty .ensures .0)
+    emptied (n .store-none .ensures) (λ i. omega (arith, e .before .before .slice-known4 .given i)) (all .cleared .ensures ∙ ap (λ (n : ℕ). replicate {A = List ℕ} n []) (s .pre .1))
+    (e .empty .ensures ∙ ap (λ (n : ℕ). replicate n 0) (s .pre .2))
 
 pub reset-spec : {M : Type 1} → statement M
 reset-spec =

@@ -4,7 +4,7 @@ use Rattle.pool.proofs.tx_head.Statement.{statement}
 use Rattle.pool.proofs.tx_head.Tie as tie
 
 returns : tie.Need-returns
-returns c = λ figures h some. c .head .ensures _ _ (h .tx) some
+returns c = c .head .ensures
 
 pub tx-head-spec : {M : Type 1} → statement M
 tx-head-spec = tie.close (tie.spec (λ c. search needs) (λ c. search needs) (λ c. search needs) (λ c κs. search needs) returns)

@@ -6,7 +6,6 @@ use native.Mathlib.Omega.{arith}
 use borrow.Author.Fill.{fill-more}
 use borrow.Author.Needs.{needs}
 use lib.ListN.{length, drop, set, replicate, drop-of-length-le, length-set}
-use Rattle.queues.specs.Parts.{slots-empty}
 use Rattle.queues.proofs.empty.Statement.{statement}
 use Rattle.queues.proofs.empty.Tie as tie
 
@@ -33,9 +32,8 @@ returns c =
     let v = a .loop .inv in
     let old = a .before .args .slots .now in
     let done : length old ≤ i = omega (arith, c .loop-test .left, v .1) in
-    let all : i ≡ length (a .loop .slots) = omega (arith, v .0, v .1) in
-    let whole = v .2 ∙ ap (λ (l : List ℕ). replicate i 0 ++ l) (drop-of-length-le old done) ∙ append-nil (replicate i 0) in
-    (slots-empty (a .loop .slots) (whole ∙ ap (λ (n : ℕ). replicate n 0) all), v .1)
+    let all : i ≡ length old = omega (arith, v .0) in
+    v .2 ∙ ap (λ (l : List ℕ). replicate i 0 ++ l) (drop-of-length-le old done) ∙ append-nil (replicate i 0) ∙ ap (λ (n : ℕ). replicate n 0) all
 
 pub empty-spec : {M : Type 1} → statement M
 empty-spec = tie.close (tie.spec Inv-loop μ-loop loop-holds (λ c. search needs) (λ c. search needs) (λ c. search needs) loop-again (λ c. search needs) returns)

@@ -1,10 +1,11 @@
 -- All entries but the last have moved up when the loop ends.
-use mathlib.Core.Path.{_≡_, refl}
-use Prim.Native.Nat.{suc, _+_, _-_, _≤_}
+use mathlib.Core.Path.{_≡_, refl, ap, _∙_}
+use mathlib.Core.List.{_∷_, _++_}
+use Prim.Native.Nat.{ℕ, suc, _+_, _-_, _≤_}
 use native.Mathlib.Omega.{arith}
 use borrow.Author.Needs.{needs}
-use lib.ListN.{length, length-set}
-use Rattle.queues.proofs.Shift.{moved, moved-none, move, popped}
+use lib.ListN.{length, take, drop, length-set}
+use Rattle.queues.proofs.Shift.{moved, moved-none, move, last-cleared}
 use Rattle.queues.proofs.pop.Statement.{statement}
 use Rattle.queues.proofs.pop.Tie as tie
 
@@ -29,12 +30,12 @@ returns c =
     let a = c .before in
     let v = a .loop .inv in
     let old = a .before .args .slots .now in
-    let last = a .before .args .count - 1 in
+    let count = a .before .args .count in
     let h = c .loop-test .left in
     let p = a .before .pre in
-    let e : a .loop .i ≡ last = omega arith in
-    let n : a .before .args .count ≡ suc last = omega arith in
-    (λ l q. popped old (a .loop .slots) l last (rw n at q) (rw e at (v .3)), simp length-set (v .4))
+    let e : a .loop .i ≡ count - 1 = omega arith in
+    let n : suc (count - 1) ≡ count = omega arith in
+    last-cleared old (a .loop .slots) (count - 1) (omega arith) (rw e at (v .3)) ∙ ap (λ (k : ℕ). take (count - 1) (drop 1 old) ++ (0 ∷ drop k old)) n
 
 pub pop-spec : {M : Type 1} → statement M
 pop-spec =

@@ -102,7 +102,7 @@ unfolding registerIn registerAt
 returns-2 c =
     let m = c .before .before .before .before .before in
     let e = m .before .before in
-    there e (answered (c .gives .ensures) (plain e (rw (m .match .keys1) (c .before .before .before .read-ecr .ensures .0 (lanes e)))))
+    there e (answered (c .gives .ensures) (plain e (rw (m .match .keys1) (c .before .before .before .read-ecr .ensures .1 .0 (lanes e)))))
 
 returns-3 : tie.Need-returns-3
 unfolding registerIn registerAt
@@ -203,7 +203,7 @@ read-spec =
     (λ c κs. search needs)
     (λ c κs. let o = sound (c .before .before .before) in (o .kept, o .queues))
     (λ c κs. search needs)
-    (λ c κs. kept (c .before .before .before))
+    (λ c κs. let e = c .before .before .before in (kept e, (queues e, sound e .queues)))
     (λ c κs. search needs)
     (λ c. search needs)
     (λ c κs. search needs)
@@ -216,7 +216,7 @@ read-spec =
     (λ c κs. search needs)
     (λ c κs. start (c .before .before .before .before .before) .pre)
     (λ c κs. search needs)
-    (λ c. c .before .before .before .read-ecr .ensures .1 ∙ sym (kept (c .before .before .before .before .before .before .before) .whole))
+    (λ c. c .before .before .before .read-ecr .ensures .1 .1 ∙ sym (kept (c .before .before .before .before .before .before .before) .whole))
     returns-2
     returns-3
     (λ c. search needs)

@@ -4,6 +4,7 @@ use mathlib.Core.Path.{_≡_, refl, sym, _∙_}
 use mathlib.Core.Bool.{false}
 use mathlib.Core.List.{List, [], _∷_}
 use Prim.Native.Nat.{ℕ}
+use types.Run.{OneOf}
 use Rattle.rules.specs.Lists.{member}
 use Rattle.rules.specs.Tests.{allBelow}
 use Rattle.rules.specs.Registers as rules
@@ -90,13 +91,29 @@ arms =
 returns : tie.Need-returns
 returns c = let s = c .before .before .before .before .before .before in write-nowhere _ _ _ (s .pre .0 .sound) (sym (c .before .misplaced .ensures) ∙ c .if1 .taken)
 
+-- the registers that are words
+words-even : (k : ℕ) → OneOf (10 ∷ 12 ∷ 14 ∷ 19 ∷ 24 ∷ 26 ∷ []) k → Plain (registerIn k) k
+unfolding registerIn registerAt
+words-even k o =
+    by-key (λ (j : ℕ). Plain (registerIn j) j) (10 ∷ 12 ∷ 14 ∷ 19 ∷ 24 ∷ 26 ∷ []) k o writes-station-0 writes-station-2 writes-control writes-pointer writes-table-0 writes-table-2
+
+words-odd : (k : ℕ) → OneOf (11 ∷ 25 ∷ 27 ∷ []) k → Plain (registerIn k) k
+unfolding registerIn registerAt
+words-odd k o = by-key (λ (j : ℕ). Plain (registerIn j) j) (11 ∷ 25 ∷ 27 ∷ []) k o writes-station-1 writes-table-1 writes-table-3
+
 write-word-requires : tie.Need-write-word-requires
 unfolding allBelow
-write-word-requires c κs = let e = c .before .before .before in (kept e, key-below 32 (10 ∷ 12 ∷ 14 ∷ 19 ∷ 24 ∷ 26 ∷ []) _ refl (c .before .match .keys12))
+write-word-requires c κs =
+    let e = c .before .before .before in
+    let o = c .before .match .keys12 in
+    (kept e, key-below 32 (10 ∷ 12 ∷ 14 ∷ 19 ∷ 24 ∷ 26 ∷ []) _ refl o, (registerIn (place e), words-even (place e) o))
 
 write-word-requires-2 : tie.Need-write-word-requires-2
 unfolding allBelow
-write-word-requires-2 c κs = let e = c .before .before .before in (kept e, key-below 32 (11 ∷ 25 ∷ 27 ∷ []) _ refl (c .before .match .keys13))
+write-word-requires-2 c κs =
+    let e = c .before .before .before in
+    let o = c .before .match .keys13 in
+    (kept e, key-below 32 (11 ∷ 25 ∷ 27 ∷ []) _ refl o, (registerIn (place e), words-odd (place e) o))
 
 -- registers with a function of their own
 returns-2 : tie.Need-returns-2
@@ -179,20 +196,16 @@ returns-12 c =
 
 -- the words
 returns-13 : tie.Need-returns-13
-unfolding registerIn registerAt
 returns-13 c =
     let m = c .before .before .before .before in
     let e = m .before .before in
-    let law = by-key (λ (k : ℕ). Plain (registerIn k) k) (10 ∷ 12 ∷ 14 ∷ 19 ∷ 24 ∷ 26 ∷ []) _ (m .match .keys12) writes-station-0 writes-station-2 writes-control writes-pointer writes-table-0 writes-table-2 in
-    there e (plain e (c .before .before .write-word .ensures .0 (registerIn (place e)) law))
+    there e (plain e (c .before .before .write-word .ensures .0 (registerIn (place e)) (words-even (place e) (m .match .keys12))))
 
 returns-14 : tie.Need-returns-14
-unfolding registerIn registerAt
 returns-14 c =
     let m = c .before .before .before .before in
     let e = m .before .before in
-    let law = by-key (λ (k : ℕ). Plain (registerIn k) k) (11 ∷ 25 ∷ 27 ∷ []) _ (m .match .keys13) writes-station-1 writes-table-1 writes-table-3 in
-    there e (plain e (c .before .before .write-word2 .ensures .0 (registerIn (place e)) law))
+    there e (plain e (c .before .before .write-word2 .ensures .0 (registerIn (place e)) (words-odd (place e) (m .match .keys13))))
 
 -- banks 5 to 7
 returns-15 : tie.Need-returns-15
@@ -234,7 +247,7 @@ write-spec =
     (λ c κs. let e = c .before .before .before in (kept e, placed e))
     (λ c κs. let e = c .before .before .before .before .before in (start e .pre .0, placed e))
     (λ c κs. let e = c .before .before .before in (kept e, placed e))
-    (λ c κs. let e = c .before .before .before .before in (kept e, sound e .queues, placed e))
+    (λ c κs. let e = c .before .before .before .before in (kept e, sound e .queues, placed e, (sets e, sound e .sets)))
     (λ c κs. let e = c .before .before .before in (kept e, placed e))
     write-word-requires
     write-word-requires-2

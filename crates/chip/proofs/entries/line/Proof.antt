@@ -24,7 +24,7 @@ slice-aggregate-line-up : tie.Need-slice-aggregate-line-up
 slice-aggregate-line-up c = search needs
 
 line-up-requires : tie.Need-line-up-requires
-line-up-requires c κs = is-in (c .before .before .well-formed .ensures) (c .before .if1 .left) .sound .kept
+line-up-requires c κs = let o = is-in (c .before .before .well-formed .ensures) (c .before .if1 .left) .sound in (o .kept, (_, o .queues))
 
 returns-2 : tie.Need-returns-2
 returns-2 c = let e = c .before .before in

@@ -14,7 +14,7 @@ use Rattle.rules.specs.Mmu as rules
 use Rattle.lists.specs.Facts.{or-right}
 use Rattle.sets.specs.Views.{pagesOf}
 use Rattle.state.specs.View.{word, queueIn, view}
-use Rattle.pool.specs.Queues.{may-join-tx, rejoins-chip, rejoins-sound}
+use Rattle.pool.specs.Queues.{may-join-tx, rejoins-chip, rejoins-sound, queued-told}
 use Rattle.commands.proofs.Steps.{enqueues, packet-small, tx-room}
 use Rattle.commands.proofs.Returns.{performs, refuses-5, refuses-6, goes-ahead}
 use borrow.Author.Needs.{needs}
@@ -48,7 +48,7 @@ is-queued-requires c κs =
 -- it is in RX or TX as the words say
 told : (c : tie.After-is-queued) → let n = c .before .before .before .before in let a = n .before .before .before .before .before .args in let k = n .named .result .0 in
     c .is-queued .result ≡ member k (queueIn 0 (word (a .words .now) 6) (a .queues .now)) || member k (queueIn 1 (word (a .words .now) 8) (a .queues .now))
-told c = let s = c .before .before .before .before .before .before .before .before .before in c .is-queued .ensures (s .args .sets .now) (s .args .queues .now) (s .pre)
+told c = let s = c .before .before .before .before .before .before .before .before .before in c .is-queued .ensures ∙ queued-told (s .pre) _
 
 returns-2 : tie.Need-returns-2
 returns-2 c =

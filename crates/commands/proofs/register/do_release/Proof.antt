@@ -14,6 +14,7 @@ use Rattle.wellformed.specs.Pool.{has-small}
 use Rattle.sets.specs.Views.{pagesOf}
 use Rattle.sets.specs.Lists.{lists-length}
 use Rattle.state.specs.View.{view}
+use Rattle.pool.specs.Queues.{queued-told}
 use Rattle.pool.specs.Pages.{repages-chip, repages-sound}
 use Rattle.commands.proofs.Steps.{releases}
 use Rattle.commands.proofs.Returns.{performs, refuses-5, refuses-6, goes-ahead}
@@ -49,7 +50,7 @@ returns-2 : tie.Need-returns-2
 returns-2 c = λ q r.
     let i = c .before in
     let e = i .before .before in
-    refuses-6 rules.release (λ x. did (after x)) releases _ _ q _ (e .before .before .before .named .ensures) (r .sound) (there e) (i .is-queued .ensures _ q r) (c .if2 .taken)
+    refuses-6 rules.release (λ x. did (after x)) releases _ _ q _ (e .before .before .before .named .ensures) (r .sound) (there e) (i .is-queued .ensures ∙ queued-told r _) (c .if2 .taken)
 
 give-back-requires : tie.Need-give-back-requires
 give-back-requires c κs =
@@ -69,7 +70,7 @@ returns-3 c = λ q r mem.
     let ss = s .args .sets .now in
     let back = b .give-back .ensures in
     performs rules.release w ss q mem after
-    (goes-ahead rules.release (λ x. did (after x)) releases w ss q _ (n .named .ensures) (there e) (i .is-queued .ensures ss q r) (f .if2 .left) mem)
+    (goes-ahead rules.release (λ x. did (after x)) releases w ss q _ (n .named .ensures) (there e) (i .is-queued .ensures ∙ queued-told r _) (f .if2 .left) mem)
     (repages-chip back q mem ∙ ap (λ (j : ℕ). rules.giveBack j (view w ss q mem)) (n .named .ensures))
     (repages-sound back q (r .sound .queues))
 

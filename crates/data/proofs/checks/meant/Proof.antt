@@ -9,7 +9,8 @@ use borrow.Author.Tests.{not-true, not-false}
 use Rattle.rules.specs.Bits.{lowByte}
 use Rattle.rules.specs.Data.{rcv}
 use Rattle.lists.specs.Facts.{head-and-rest}
-use Rattle.state.specs.View.{word, figures, queueIn}
+use Rattle.state.specs.View.{word, queueIn}
+use Rattle.pool.specs.Queues.{head-told}
 use Rattle.data.specs.Access.{headOr24, meantBy}
 use Rattle.data.proofs.checks.meant.Statement.{statement}
 use Rattle.data.proofs.checks.meant.Tie as tie
@@ -40,7 +41,7 @@ returns-3 c =
     let e = c .before .before .before in
     let s = e .before .before .before .before .before in
     let h = s .pre .1 in
-    c .rx-head .ensures (figures (s .args .words .now)) h (omega (arith, c .before .if2 .left))
+    c .rx-head .ensures ∙ head-told 0 _ (s .args .queues .now) (h .rx) (omega (arith, c .before .if2 .left))
     ∙ ap headOr24 (sym (head-and-rest (queueIn 0 (word (s .args .words .now) 6) (s .args .queues .now)) 0 (omega (arith, h .rx .many, c .before .if2 .left))))
     ∙ sym (set _ _ _ (sym (e .before .is-set .ensures) ∙ not-false _ (e .if1 .left)))
 

@@ -42,7 +42,7 @@ returns c =
     let k = s .args .packet .0 in
     let p = s .pre in
     repaged (λ ls. set ls k []) k [] _ _ _ _ _ (store-mir _ (s .args .words .now) (p .0)) (p .1) (p .3) (p .2)
-    (back-good 24 _ k (omega (arith, lists-length (s .args .sets .now), p .1 .many, p .3)) (p .2)) r refl
+    (back-good 24 _ k (omega (arith, lists-length (s .args .sets .now), p .1 .many, p .3)) (p .2)) (λ i. omega (arith, c .slice-known5 .given i)) r refl
     (omega (arith, m .more .ensures, n .page-count .ensures, ap length (list-at (s .args .sets .now) k)))
 
 pub give-back-spec : {M : Type 1} → statement M

@@ -33,7 +33,7 @@ returns c =
     let need = s .args .need in (
       g .0,
       repaged (λ ls. set ls k (take need (freeBelow 24 ls))) k _ _ _ _ _ _ (store-mir _ (s .args .words .now) (p .0)) (p .1) (p .2 .number) (p .2 .good)
-          (grant-good 24 _ k (omega (arith, lists-length (s .args .sets .now), p .1 .many, p .2 .number)) (p .2 .good) need (p .2 .short)) (g .1) refl
+          (grant-good 24 _ k (omega (arith, lists-length (s .args .sets .now), p .1 .many, p .2 .number)) (p .2 .good) need (p .2 .short)) (λ i. omega (arith, c .slice-known4 .given i)) (g .1) refl
           (omega (arith, f .fewer .ensures, p .1 .free, p .2 .few, length-take-le need (freeBelow 24 (map pagesOf (s .args .sets .now))) (p .2 .few), ap (λ (l : List ℕ). length l) (p .2 .none))),
     )
 

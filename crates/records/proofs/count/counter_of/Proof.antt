@@ -1,8 +1,7 @@
 -- The loop packs the digits; what stands before them gets less.
 use borrow.Author.Needs.{needs}
-use mathlib.Core.Path.{refl}
 use native.Mathlib.Omega.{arith}
-use Rattle.records.proofs.Packed.{Packing, packing-starts, packing-on, packing-short, packing-text, packing-unit, packing-ends}
+use Rattle.records.proofs.Packed.{Packing, packing-starts, packing-on, packing-short, packing-text, packing-unit, packing-ends, digits-counted, none-counted}
 use Rattle.records.proofs.count.counter_of.Statement.{statement}
 use Rattle.records.proofs.count.counter_of.Tie as tie
 
@@ -13,7 +12,7 @@ abbrev μ-loop : tie.MeasureT-loop
 μ-loop number last text₀ unit₀ length₀ x₀ text unit length x = x
 
 returns : tie.Need-returns Inv-loop μ-loop
-returns c = (refl, record { digits = λ h. absurd (omega arith) })
+returns c = none-counted (c .before .args .number) (c .if1 .taken)
 
 loop-holds : tie.Need-loop-holds Inv-loop μ-loop
 loop-holds c = packing-starts (c .before .args .number)
@@ -38,7 +37,7 @@ loop-again : tie.Need-loop-again Inv-loop μ-loop
 loop-again c = packing-on (c .before .loop .inv) (c .loop-test .taken)
 
 returns-2 : tie.Need-returns-2 Inv-loop μ-loop
-returns-2 c = (refl, record { digits = λ h. packing-ends (c .before .loop .inv) (omega (arith, c .loop-test .left)) (c .before .before .if1 .left) })
+returns-2 c = digits-counted (packing-ends (c .before .loop .inv) (omega (arith, c .loop-test .left)) (c .before .before .if1 .left))
 
 pub counter-of-spec : {M : Type 1} → statement M
 counter-of-spec =

@@ -1,16 +1,15 @@
 use borrow.Author.Needs.{needs}
-use mathlib.Core.Path.{refl}
 use Prim.Native.Nat.{_+_}
 use native.Mathlib.Omega.{arith}
-use Rattle.records.specs.Counting.{Digits}
-use Rattle.records.proofs.Packed.{digits-fit, digits-next}
+use Rattle.records.proofs.Packed.{Digits, digits-fit, digits-next, digits-counted, has-digits}
 use Rattle.records.proofs.count.next.Statement.{statement}
 use Rattle.records.proofs.count.next.Tie as tie
 
 -- The digits of the next number, where the last one is no 9.
 grown : (c : tie.Else2) → let k = c .before .before .before .before .args .counter in Digits (k .number + 1) (k .text + k .unit) (k .unit) (k .last + 1) (k .length)
 grown c =
-    let d = c .before .before .before .before .pre .0 .digits (omega (arith, c .before .before .if1 .left)) in
+    let s = c .before .before .before .before in
+    let d = has-digits (s .args .counter) (s .pre .0) (omega (arith, c .before .before .if1 .left)) in
     digits-next d (omega (arith, d .ends, c .if2 .left))
 
 add-t6 : tie.Need-add-t6
@@ -20,7 +19,7 @@ add-t7 : tie.Need-add-t7
 add-t7 c = record { fits = omega (arith, grown (c .before .before .before) .ends) }
 
 returns-3 : tie.Need-returns-3
-returns-3 c = (refl, record { digits = λ h. grown (c .before .before .before) })
+returns-3 c = digits-counted (grown (c .before .before .before))
 
 pub next-spec : {M : Type 1} → statement M
 next-spec =

@@ -1,3 +1,4 @@
+-- A counter without digits is written by `long_at`; one with digits in one word, of which the first `length` bytes are the number.
 use borrow.Author.Needs.{needs}
 use mathlib.Core.Path.{refl}
 use Prim.Native.Nat.{_≤_}
@@ -7,8 +8,7 @@ use lib.Seq.{take-length}
 use Rattle.rules.specs.Bench.{decimal}
 use Rattle.records.specs.Decimal.{decimal-length}
 use Rattle.records.specs.Word.{bytes8}
-use Rattle.records.specs.Counting.{Digits}
-use Rattle.records.proofs.Packed.{digits-out}
+use Rattle.records.proofs.Packed.{Digits, digits-few, digits-out, has-digits}
 use Rattle.records.proofs.Parts.{begins}
 use Rattle.records.proofs.line.number_at.Statement.{statement}
 use Rattle.records.proofs.line.number_at.Tie as tie
@@ -18,7 +18,7 @@ few : (s : tie.Start) → length (decimal (s .args .counter .number)) ≤ 20
 few s = decimal-length 19 (s .args .counter .number) (search needs)
 
 digits : (c : tie.Else1) → let k = c .before .before .before .args .counter in Digits (k .number) (k .text) (k .unit) (k .last) (k .length)
-digits c = c .before .before .before .pre .0 .digits (omega (arith, c .if1 .left))
+digits c = let s = c .before .before .before in has-digits (s .args .counter) (s .pre .0) (omega (arith, c .if1 .left))
 
 long-at-requires : tie.Need-long-at-requires
 long-at-requires c κs = let s = c .before .before .before .before in omega (arith, s .pre .1, few s)
@@ -31,14 +31,14 @@ returns c =
     begins w (omega (arith, s .pre .1, few s)) (length d) (omega arith) (omega arith) (take-length d) (w .place)
 
 add-result : tie.Need-add-result
-add-result c = record { fits = omega (arith, c .before .before .before .before .before .before .before .before .pre .1, digits (c .before .before .before .before .before) .fits) }
+add-result c = record { fits = omega (arith, c .before .before .before .before .before .before .before .before .pre .1, digits-few (digits (c .before .before .before .before .before))) }
 
 returns-2 : tie.Need-returns-2
 unfolding bytes8
 returns-2 c =
     let d = digits (c .before .before .before .before .before) in
     begins (c .before .before .before .eight-at .ensures) (search needs) (c .before .before .before .before .before .before .before .before .args .counter .length)
-    (omega (arith, d .fits)) (omega arith) (digits-out d) refl
+    (omega (arith, digits-few d)) (omega arith) (digits-out d) refl
 
 pub number-at-spec : {M : Type 1} → statement M
 number-at-spec =

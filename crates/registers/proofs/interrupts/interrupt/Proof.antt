@@ -8,13 +8,13 @@ use Rattle.registers.proofs.interrupts.interrupt.Tie as tie
 add-result : tie.Need-add-result
 add-result c =
     let s = c .before .before .before in
-    omega (arith, s .pre .fixed .maskLow, c .before .status .ensures .1, c .shared-slice-known2 .given 22)
+    omega (arith, s .pre .0 .fixed .maskLow, c .before .status .ensures .1, c .shared-slice-known2 .given 22)
 
 returns : tie.Need-returns
 unfolding wordOf
 returns c =
     let s = c .before .before .before in
-    let m = s .pre .fixed .maskLow in
+    let m = s .pre .0 .fixed .maskLow in
     λ sets q mem h. let e = c .before .status .ensures .0 sets q mem h in omega arith
 
 pub interrupt-spec : {M : Type 1} → statement M

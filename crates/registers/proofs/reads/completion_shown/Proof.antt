@@ -1,7 +1,7 @@
 -- By the count.
 use mathlib.Core.Path.{_∙_}
 use native.Mathlib.Omega.{arith}
-use Rattle.state.specs.View.{figures}
+use Rattle.pool.specs.Queues.{head-told}
 use Rattle.registers.proofs.Queues.{shows-none, shows-head}
 use borrow.Author.Needs.{needs}
 use Rattle.registers.proofs.reads.completion_shown.Statement.{statement}
@@ -15,7 +15,7 @@ returns-2 c =
     let s = c .before .before .before .before .before in
     let h = s .pre .1 in
     let some = c .before .if1 .left in
-    c .completion-head .ensures (figures (s .args .words .now)) h (omega arith) ∙ shows-head _ _ (h .completion .many) some
+    c .completion-head .ensures ∙ head-told 2 _ (s .args .queues .now) (h .completion) (omega arith) ∙ shows-head _ _ (h .completion .many) some
 
 pub completion-shown-spec : {M : Type 1} → statement M
 completion-shown-spec =

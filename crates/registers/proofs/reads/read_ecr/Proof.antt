@@ -1,5 +1,5 @@
 -- The law of ECR; EPHSR stands as it did after the first store.
-use mathlib.Core.Path.{ap, _∙_}
+use mathlib.Core.Path.{refl, ap, _∙_}
 use native.Mathlib.Omega.{arith}
 use lib.Seq.{getD-set-other}
 use lib.ListN.{length-set}
@@ -13,7 +13,7 @@ returns : tie.Need-returns
 returns c =
     let s = c .before .before .before .before in
     let w = s .args .words .now in
-    (λ p. reads-ecr p _ w (s .pre) (c .with-clear .ensures ∙ ap (clearBit 12) (getD-set-other w 3 1 0 0 (λ e. absurd (omega arith)))), simp length-set (s .pre .whole))
+    (refl, (λ p. reads-ecr p _ w (s .pre) (c .with-clear .ensures ∙ ap (clearBit 12) (getD-set-other w 3 1 0 0 (λ e. absurd (omega arith)))), simp length-set (s .pre .whole)))
 
 pub read-ecr-spec : {M : Type 1} → statement M
 read-ecr-spec =

@@ -9,7 +9,7 @@ use Rattle.sending.proofs.completion.retire.Tie as tie
 returns : tie.Need-returns
 returns c =
     gives-back (search needs) (search needs)
-    (record { regs = search needs; pages = search needs; still = search needs; kept = search needs; sets = record { many = search needs; free = search needs } })
+    (record { regs = search needs; pages = search needs; still = search needs; kept = search needs; sets = record { many = search needs; free = search needs; small = search needs } })
 
 join-completion-requires : tie.Need-join-completion-requires
 join-completion-requires c κs =

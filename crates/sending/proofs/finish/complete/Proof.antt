@@ -25,7 +25,7 @@ retire-requires c κs =
     let o = s .pre .0 .sound in
     let e = t .after-send .ensures in (
       omega (arith, e .0, head-small (s .pre .0) (s .pre .1)),
-      record { kept = e .1 .kept; queues = e .1 .queues; sets = record { many = o .sets .many; free = e .1 .free ∙ o .sets .free } },
+      record { kept = e .1 .kept; queues = e .1 .queues; sets = record { many = o .sets .many; free = e .1 .free ∙ o .sets .free; small = o .sets .small } },
       s .pre .0 .well .pages,
       λ f. omega (arith, s .pre .4 f, same-completion (e .1) (o .queues)),
     )

@@ -15,7 +15,8 @@ use Rattle.rules.specs.Send.{usable, byteCount, good, autoRelease, noPlace}
 use Rattle.lists.specs.Bytes.{value-word}
 use Rattle.sets.specs.Views.{pagesOf}
 use Rattle.packet.specs.Room.{Room}
-use Rattle.state.specs.View.{word, registersIn, figures, view}
+use Rattle.state.specs.View.{word, registersIn, view}
+use Rattle.pool.specs.Queues.{head-told}
 use Rattle.sending.specs.Numbers.{sendOf}
 use Rattle.sending.proofs.Facts.{refuses, sends-as}
 use Rattle.sending.proofs.Head.{pages-few, room, usable-fits}
@@ -56,7 +57,7 @@ releasing s = autoRelease (good (word (words s) 0) (s .args .s .outcome)) (regis
 paged : (o : tie.After-set-of) → pages o ≡ pagesAt (chip (start o)) (getD (chip (start o) .pool .tx) 0 0)
 paged o =
     let s = start o in
-    o .set-of .ensures ∙ ap (pagesAt (chip s)) (o .before .tx-head .ensures (figures (words s)) (s .pre .0 .sound .queues) (s .pre .3))
+    o .set-of .ensures ∙ ap (pagesAt (chip s)) (o .before .tx-head .ensures ∙ head-told 1 _ (s .args .queues .now) (s .pre .0 .sound .queues .tx) (s .pre .3))
 
 few : (o : tie.After-set-of) → (1 ≤ length (pages o)) × (length (pages o) ≤ 8)
 few o = pages-few (start o .pre .0) (start o .pre .3) (o .set-of .result) (paged o)

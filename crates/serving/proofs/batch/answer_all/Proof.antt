@@ -7,7 +7,7 @@ use native.Mathlib.Omega.{arith}
 use lib.ListN.{length, take, drop, length-drop}
 use lib.Seq.{length-take-le}
 use Rattle.state.specs.View.{view}
-use Rattle.records.specs.Counting.{Counts}
+use Rattle.records.specs.Counting.{Counts, counter-number, counter-counts}
 use Rattle.records.specs.Gathers.{holding}
 use Rattle.serving.specs.Batch.{Answered, recordAt}
 use Rattle.serving.proofs.Runs.{none-yet, one-more}
@@ -37,8 +37,8 @@ loop-holds c =
     let e = c .counter-of .ensures in (
       search needs,
       search needs,
-      none-yet (s .args .input .now) (s .args .words .now) (s .args .sets .now) (s .args .queues .now) (s .args .memory .now) (s .args .wire .now) (s .args .have .now) (s .args .out .now) (s .args .lines .now) (e .0) (s .pre .0),
-      e .1,
+      none-yet (s .args .input .now) (s .args .words .now) (s .args .sets .now) (s .args .queues .now) (s .args .memory .now) (s .args .wire .now) (s .args .have .now) (s .args .out .now) (s .args .lines .now) (counter-number e) (s .pre .0),
+      counter-counts e,
       refl,
       refl,
       refl,
@@ -83,8 +83,8 @@ loop-again c =
       omega (arith, t),
       omega (arith, v .1, p .1),
       one-more (l .loop .k) _ _ (s .args .input .now) _ _ (omega arith) (record-told (l .loop .k) (s .args .input .now)) (omega (arith, v .1, v .10, s .pre .1 .0, s .pre .1 .1, t)) (v .2)
-          (a .answer .ensures) (p .0) (c .next .ensures .0),
-      c .next .ensures .1,
+          (a .answer .ensures) (p .0) (counter-number (c .next .ensures)),
+      counter-counts (c .next .ensures),
       c .before .before .before .before .before .before .before .before .before .before .before .before .before .before .before .before .before .words .given ∙ v .4,
       c .before .before .before .before .before .before .before .before .before .before .before .before .before .before .before .sets .given ∙ v .5,
       c .before .before .before .before .before .before .before .before .before .before .before .before .before .queues .given ∙ v .6,

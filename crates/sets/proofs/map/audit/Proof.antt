@@ -1,8 +1,8 @@
 -- What `joined` gives is the joined sets and their sum, which decide all but the number of pages of each set.
 use borrow.Author.Needs.{needs}
 use borrow.Author.Tests.{ltb-false}
-use mathlib.Core.Path.{_≡_, ap, sym, subst, _∙_}
-use mathlib.Core.Bool.{Bool, false, _||_, true≢false}
+use mathlib.Core.Path.{_≡_, refl, ap, sym, subst, _∙_}
+use mathlib.Core.Bool.{Bool, false, _||_}
 use mathlib.Core.List.{List, map}
 use Prim.Native.Nat.{ℕ, _-_, _^_, _%_, _≤_, _<_}
 use native.Mathlib.Omega.{arith}
@@ -14,7 +14,7 @@ use lib.ListN.{length, getD}
 use Rattle.rules.specs.Bits.{bit}
 use Rattle.rules.specs.Lists.{freeBelow}
 use Rattle.rules.specs.WellFormed.{GoodPages}
-use Rattle.lists.specs.Facts.{Decides, always, or-left, or-right}
+use Rattle.lists.specs.Facts.{Decides, always, refutes, or-left, or-right}
 use Rattle.sets.specs.Views.{pagesOf}
 use Rattle.sets.specs.Joins.{joined, total, FewEach, join4, join-all, sum-all, few-all, ones-joined, joined-owned, free-rest}
 use Rattle.sets.specs.Good.{joined-high, sum-other, few-good}
@@ -55,12 +55,12 @@ module _ (a : At) (low : Owned a < 16777216) (same : a .joined .result .4 ≡ Ow
 returns : tie.Need-returns
 returns c =
     let a = c .before .before .before in
-    (joined-high 24 (Sets a) (fits a) (subst (λ (x : ℕ). 16777216 ≤ x) (owned-is a) (c .if1 .taken)), λ e. absurd (true≢false (sym e)))
+    (joined-high 24 (Sets a) (fits a) (subst (λ (x : ℕ). 16777216 ≤ x) (owned-is a) (c .if1 .taken)), refl)
 
 returns-2 : tie.Need-returns-2
 returns-2 c =
     let a = c .before .before .before .before .before in
-    (sum-other 24 (Sets a) (fits a) (omega arith) (λ e. omega (arith, c .if2 .taken, sum-is a ∙ e ∙ sym (owned-is a))), λ e. absurd (true≢false (sym e)))
+    (sum-other 24 (Sets a) (fits a) (omega arith) (λ e. omega (arith, c .if2 .taken, sum-is a ∙ e ∙ sym (owned-is a))), refl)
 
 sub-free : tie.Need-sub-free
 sub-free c = ones-le 24 (Owned (c .before .before .before .before .before)) (search needs)
@@ -72,15 +72,25 @@ returns-3 c =
     let low : Owned a < 16777216 = search needs in
     let same : a .joined .result .4 ≡ Owned a = omega arith in
     let few : ones (Owned a) ≤ 8 = omega arith in
-    (good a low same (always (λ i. le-trans (ones-joined (Sets a) i) (subst (λ (x : ℕ). ones x ≤ 8) (owned-is a) few))), λ e. free a low same)
+    (good a low same (always (λ i. le-trans (ones-joined (Sets a) i) (subst (λ (x : ℕ). ones x ≤ 8) (owned-is a) few))), free a low same)
 
 returns-4 : tie.Need-returns-4
 returns-4 c =
-    let b = c .before .before .before .before .before .before .before in
+    let f = c .before in
+    let b = f .before .before .before .before .before .before .before in
     let a = b .before .before .before .before .before in
     let low : Owned a < 16777216 = search needs in
     let same : a .joined .result .4 ≡ Owned a = omega arith in
-    (good a low same (c .few-each .ensures), λ e. free a low same)
+    (good a low same (always (f .few-each .ensures .sound (c .if5 .taken))), free a low same)
+
+returns-5 : tie.Need-returns-5
+returns-5 c =
+    let f = c .before in
+    let b = f .before .before .before .before .before .before .before in
+    let a = b .before .before .before .before .before in
+    let low : Owned a < 16777216 = search needs in
+    let same : a .joined .result .4 ≡ Owned a = omega arith in
+    (good a low same (refutes (f .few-each .ensures) (λ few. few) (c .if5 .left)), refl)
 
 not-crowded : {r : Bool} (s : ℕ) → r ≡ ltb 8 (ones s) → r ≡ false → ones s ≤ 8
 not-crowded s e f = ltb-false 8 (ones s) (sym e ∙ f)
@@ -91,8 +101,8 @@ none-of w x y z e =
     let two = or-left (w || x) y three in
     (or-left w x two, or-right w x two, or-right (w || x) y three, or-right ((w || x) || y) z e)
 
-returns-5 : tie.Need-returns-5
-returns-5 c =
+returns-6 : tie.Need-returns-6
+returns-6 c =
     let c4 = c .before in
     let c3 = c4 .before in
     let c2 = c3 .before in
@@ -107,10 +117,10 @@ returns-5 c =
     few-all (Sets a) (r .0) (r .1) (r .2) (r .3) (r .4) (a .joined .ensures) 8
     (not-crowded (r .0) (c1 .crowded .ensures) (n .0)) (not-crowded (r .1) (c2 .crowded2 .ensures) (n .1))
     (not-crowded (r .2) (c3 .crowded3 .ensures) (n .2)) (not-crowded (r .3) (c4 .crowded4 .ensures) (n .3)) in
-    (good a low same (always few), λ e. free a low same)
+    (good a low same (always few), free a low same)
 
 pub audit-spec : {M : Type 1} → statement M
 audit-spec =
     tie.close
     (tie.spec
-    (λ c κs. search needs) returns returns-2 sub-free returns-3 (λ c κs. search needs) (λ c κs. search needs) (λ c κs. search needs) (λ c κs. search needs) (λ c κs. search needs) returns-4 returns-5)
+    (λ c κs. search needs) returns returns-2 sub-free returns-3 (λ c κs. search needs) (λ c κs. search needs) (λ c κs. search needs) (λ c κs. search needs) (λ c κs. search needs) returns-4 returns-5 returns-6)

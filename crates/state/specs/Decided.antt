@@ -1,0 +1,104 @@
+-- Whether a record is in order is decided: field by field, each by an equation between numbers or lists, a comparison, or a test of the rules.
+use mathlib.Core.Path.{refl, sym}
+use mathlib.Core.Bool.{Bool, true, false, true≢false}
+use mathlib.Core.List.{List, [], _∷_, _++_, map, List-discrete}
+use Prim.Native.Nat.{ℕ, suc, _+_, _*_, _-_, _/_, _%_, _^_, _<_}
+use native.Mathlib.Omega.{arith}
+use native.Mathlib.Decide.{ℕ-discrete, decLe}
+use lib.ListN.{length, replicate}
+use Rattle.rules.specs.Bits.{bit, flag, wordOf}
+use Rattle.rules.specs.Lists.{freeBelow}
+use Rattle.rules.specs.Tests.{allBelow, formed}
+use Rattle.lists.specs.Facts.{Decides}
+use Rattle.lists.specs.Each.{Each, each-at}
+use Rattle.wellformed.specs.Fit.{below-decides, formed-decides}
+use Rattle.sets.specs.Views.{pagesOf}
+use Rattle.sets.specs.Members.{setOf}
+use Rattle.queues.specs.Slots.{Slots}
+use Rattle.queues.specs.Parts.{slots}
+use Rattle.state.specs.View.{word, figures, queueIn, view, Fixed, Blank, Kept}
+use Rattle.state.specs.Promise.{Halves, QueuesIn, Small, SetsIn, Sound, Ready}
+use Rattle.state.specs.Entry.{InOrder}
+
+-- What asks for P is decided by P first: where P does not hold it does not, and where P holds the rest decides.
+asks : {P Q : Type 0} → (Q → P) → Dec P → (P → Dec Q) → Dec Q
+asks f (yes p) rest = rest p
+asks f (no n) rest = no (λ q. n (f q))
+
+-- what a test of the rules decides
+tested : (b : Bool) {P : Type 0} → Decides b P → Dec P
+tested true d = yes (d .sound refl)
+tested false d = no (λ p. true≢false (sym (d .complete p)))
+
+-- The words.
+fixed? : (bank reserved latches mask : ℕ) → Dec (Fixed bank reserved latches mask)
+fixed? bank reserved latches mask =
+    asks (λ x. x .bankHigh) (ℕ-discrete (bank / 8) 0x660)
+    (λ a. asks (λ x. x .reservedHigh) (ℕ-discrete (reserved / 256) 0x33)
+    (λ b. asks (λ x. x .latched) (ℕ-discrete latches (4 * flag (bit 2 latches) + 16 * flag (bit 4 latches)))
+    (λ c. asks (λ x. x .maskLow) (ℕ-discrete (mask % 256) 0) (λ d. yes (record { bankHigh = a; reservedHigh = b; latched = c; maskLow = d })))))
+
+blank? : (w15 w16 w18 w20 w21 w23 : ℕ) → Dec (Blank w15 w16 w18 w20 w21 w23)
+blank? w15 w16 w18 w20 w21 w23 =
+    asks (λ x. x .none15) (ℕ-discrete w15 0)
+    (λ a. asks (λ x. x .none16) (ℕ-discrete w16 0)
+    (λ b. asks (λ x. x .none18) (ℕ-discrete w18 0)
+    (λ c. asks (λ x. x .none20) (ℕ-discrete w20 0)
+    (λ d. asks (λ x. x .none21) (ℕ-discrete w21 0)
+    (λ e. asks (λ x. x .none23) (ℕ-discrete w23 0) (λ f. yes (record { none15 = a; none16 = b; none18 = c; none20 = d; none21 = e; none23 = f })))))))
+
+kept? : (w : List ℕ) → Dec (Kept w)
+kept? w =
+    asks (λ x. x .whole) (ℕ-discrete (length w) 32)
+    (λ a. asks (λ x. x .fixed) (fixed? (word w 7) (word w 5) (word w 13) (word w 22))
+    (λ b. asks (λ x. x .blank) (blank? (word w 15) (word w 16) (word w 18) (word w 20) (word w 21) (word w 23)) (λ c. yes (record { whole = a; fixed = b; blank = c }))))
+
+-- The queues.
+slots? : (p : List ℕ) (n : ℕ) (l : List ℕ) → Dec (Slots p n l)
+slots? p n l =
+    asks (λ x. x .many) (ℕ-discrete n (length l))
+    (λ a. asks (λ x. x .fits) (decLe n (length p))
+    (λ b. asks (λ x. x .same) (List-discrete ℕ-discrete p (l ++ replicate (length p - n) 0)) (λ c. yes (record { many = a; fits = b; same = c }))))
+
+halves? : (low high x : ℕ) → Dec (Halves low high x)
+halves? low high x = asks (λ h. h .lower) (ℕ-discrete low (x % 65536)) (λ a. asks (λ h. h .upper) (ℕ-discrete high (x / 65536)) (λ b. yes (record { lower = a; upper = b })))
+
+queues? : (c q : List ℕ) → Dec (QueuesIn c q)
+queues? c q =
+    let queue : (k n : ℕ) → Dec (Slots (slots k q) n (queueIn k n q)) = λ k n. slots? (slots k q) n (queueIn k n q) in
+    let bits : (k n low high : ℕ) → Dec (Halves low high (setOf (queueIn k n q))) = λ k n low high. halves? low high (setOf (queueIn k n q)) in
+    asks (λ x. x .long) (ℕ-discrete (length q) 72)
+    (λ a. asks (λ x. x .rx) (queue 0 (word c 0))
+    (λ b. asks (λ x. x .tx) (queue 1 (word c 1))
+    (λ d. asks (λ x. x .completion) (queue 2 (word c 2))
+    (λ e. asks (λ x. x .inRx) (bits 0 (word c 0) (word c 4) (word c 5))
+    (λ f. asks (λ x. x .inTx) (bits 1 (word c 1) (word c 6) (word c 7)) (λ g. yes (record { long = a; rx = b; tx = d; completion = e; inRx = f; inTx = g })))))))
+
+-- The sets: every place is below 2 ^ 32 where each number is.
+small-each : (s : List ℕ) → Small s → Each (λ x. x < 2 ^ 32) s
+small-each [] h = tt
+small-each (x ∷ xs) h = (h 0, small-each xs (λ i. h (suc i)))
+
+small? : (s : List ℕ) → Dec (Small s)
+small? s = asks (small-each s) (tested (allBelow (2 ^ 32) s) (below-decides (2 ^ 32) s)) (λ e. yes (λ i. each-at (λ x. x < 2 ^ 32) s i 0 e (omega arith)))
+
+sets? : (c s : List ℕ) → Dec (SetsIn c s)
+sets? c s =
+    asks (λ x. x .many) (ℕ-discrete (length s) 24)
+    (λ a. asks (λ x. x .free) (ℕ-discrete (word c 3) (wordOf 24 (length (freeBelow 24 (map pagesOf s)))))
+    (λ b. asks (λ x. x .small) (small? s) (λ d. yes (record { many = a; free = b; small = d }))))
+
+-- All of it, and with the memory.
+sound? : (w s q : List ℕ) → Dec (Sound w s q)
+sound? w s q =
+    asks (λ x. x .kept) (kept? w)
+    (λ a. asks (λ x. x .queues) (queues? (figures w) q)
+    (λ b. asks (λ x. x .sets) (sets? (figures w) s) (λ c. yes (record { kept = a; queues = b; sets = c }))))
+
+pub ready? : (w s q : List ℕ) → Dec (Ready w s q)
+ready? w s q =
+    let c = view w s q [] in
+    asks (λ x. x .sound) (sound? w s q) (λ a. asks (λ x. x .well) (tested (formed 24 c) (formed-decides 24 c)) (λ b. yes (record { sound = a; well = b })))
+
+pub decided : (w s q mem : List ℕ) → Dec (InOrder w s q mem)
+decided w s q mem = asks (λ x. x .ready) (ready? w s q) (λ a. asks (λ x. x .full) (ℕ-discrete (length mem) 6144) (λ b. yes (record { ready = a; full = b })))
