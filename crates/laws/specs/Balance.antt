@@ -56,7 +56,7 @@ entries-balanced n (e ∷ es) a b l z p h =
     entries-balanced n es (p .0) b (entered n e l) (w .1) (p .2) (w .0)
 
 -- A ledger that starts anew balances where no packet has pages.
-pub blank-balanced : (n : ℕ) → Balanced (replicate n []) (blank n)
+blank-balanced : (n : ℕ) → Balanced (replicate n []) (blank n)
 blank-balanced n = record { holds = lengths-none n; even = omega (arith, total-none n) }
 
 -- The chip after inputs that are run one after another is well formed.

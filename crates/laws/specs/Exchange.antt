@@ -5,7 +5,7 @@ use Rattle.rules.specs.Answers.{Effect}
 use Rattle.rules.specs.Registers.{Access, access}
 use Rattle.rules.specs.Receive.{Frame, arrive}
 use Rattle.laws.specs.Reception.{Reception, receive, reception, seen, frame-is, frame-reads, frame-writes}
-use Rattle.laws.specs.Loading.{Clear, Load, load-reads, load-writes}
+use Rattle.laws.specs.Loading.{Load, load-reads, load-writes}
 
 pub record Exchanged (a : Access) (f : Frame) (c : Chip) : Type 0 where
   pub chip : access a (arrive f c .chip) .chip ≡ arrive f (access a c .chip) .chip
@@ -14,12 +14,12 @@ pub record Exchanged (a : Access) (f : Frame) (c : Chip) : Type 0 where
   -- the frame is answered after the access as before it
   pub frameReply : arrive f (access a c .chip) .reply ≡ arrive f c .reply
 
-pub exchange : (a : Access) (f : Frame) (c : Chip) → Clear c → Load c c a → Exchanged a f c
-exchange a f c clear l =
+pub exchange : (a : Access) (f : Frame) (c : Chip) → Load c c a → Exchanged a f c
+exchange a f c l =
     let x = reception f (c .regs) (c .pool) in
     let d = access a c .chip in
-    let before = load-reads x c (frame-writes f (c .regs) (c .pool)) a clear l in
-    let w = load-writes c c a clear l in
+    let before = load-reads x c (frame-writes f (c .regs) (c .pool)) a l in
+    let w = load-writes c c a l in
     let same : reception f (d .regs) (d .pool) ≡ x =
     frame-reads f (d .regs) (d .pool) ∙ (λ i. reception f (seen (w .registers i)) (w .pool i)) ∙ sym (frame-reads f (c .regs) (c .pool)) in
     record {

@@ -1,8 +1,12 @@
--- The client's demands, and what leads to them. The modules tell the story in this order. No code rests on this crate.
+-- What leads to the client's demands, which `demands` states. The modules tell the story in this order. No code rests on this crate.
 -- What the rules compute: the worked example, the table of document 01, the hash examples of the data sheet.
 pub mod Example
 pub mod EitherSide
--- Demand 1: a refusal changes nothing.
+-- Sentences of document 01 said of what is seen, and not of how it is made: the bytes that a send puts out, the interrupt status and the line.
+pub mod PutOut
+pub mod Counters
+pub mod Line
+-- Demand 1: a refusal changes nothing, and which numbers an input may get.
 pub mod Refusals
 -- Demand 2: each page is free or in one packet, and the free count is accounted for. (`wellformed` has that each step keeps a chip well formed.)
 pub mod Accounted
@@ -10,6 +14,8 @@ pub mod Ledger
 pub mod Reading
 pub mod Told
 pub mod Balance
+pub mod Theorems
+pub mod Restarts
 -- Demand 3: loading and reception do not disturb each other.
 pub mod Apart
 pub mod Reception
@@ -18,8 +24,4 @@ pub mod Exchange
 pub mod Loads
 pub mod Merge
 pub mod Needed
--- Demand 2 at the chip of document 01.
-pub mod Theorems
-pub mod Restarts
--- Demand 3 is about something.
 pub mod Meanwhile

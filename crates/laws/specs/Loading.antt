@@ -24,16 +24,16 @@ offset (write w o v) = o
 abbrev pub reached : Access → Chip → Register
 reached a c = registerAt (c .regs .numbers .bank) (offset a)
 
--- Demand 3: "receive bit clear throughout".
+-- Demand 3: "receive bit clear".
 abbrev pub Clear : Chip → Type 0
 Clear c = rcv (c .regs .pointer) ≡ false
 
--- Demand 3: "bank selections and accesses to packet number, pointer and data (.. each data access on a packet allocated before the run)".
+-- Demand 3: "bank selections and accesses to packet number, pointer and data (receive bit clear throughout, each data access on a packet allocated before the run)". The bit counts at data accesses alone.
 pub data Load (start now : Chip) (a : Access) : Type 0 where
   toBank : reached a now ≡ BANK → Load start now a
   toPacket : reached a now ≡ PACKET → Load start now a
   toPointer : reached a now ≡ POINTER → Load start now a
-  toData : reached a now ≡ DATA → allocated (now .regs .numbers .packet) start ≡ true → Load start now a
+  toData : reached a now ≡ DATA → Clear now → allocated (now .regs .numbers .packet) start ≡ true → Load start now a
 
 -- the same answer, and the reception done as well
 pub record Also (x : Reception) (s t : Effect) : Type 0 where
@@ -105,16 +105,16 @@ module _ (x : Reception) (c : Chip) (w : Spares (c .pool) x) where
     writes v h = by-test (misplaced wide o) (λ t. unchanged) (λ t. rw e h)
 
   -- A load reads bank, packet number, allocation result, pointer, and the pages and bytes of an allocated packet: nothing that a frame writes.
-  pub load-reads : (a : Access) → Clear c → Load c c a → Also x (access a c) (access a (receive x c))
+  pub load-reads : (a : Access) → Load c c a → Also x (access a c) (access a (receive x c))
   unfolding readRegister writeRegister
-  load-reads (read wide o) clear (toBank e) = reads wide o BANK e unchanged
-  load-reads (read wide o) clear (toPacket e) = reads wide o PACKET e unchanged
-  load-reads (read wide o) clear (toPointer e) = reads wide o POINTER e unchanged
-  load-reads (read wide o) clear (toData e a) = reads wide o DATA e (same-read clear a (width (lanesAt wide o)))
-  load-reads (write wide o v) clear (toBank e) = writes wide o BANK e v (in-low (lanesAt wide o) unchanged)
-  load-reads (write wide o v) clear (toPacket e) = writes wide o PACKET e v (in-low (lanesAt wide o) unchanged)
-  load-reads (write wide o v) clear (toPointer e) = writes wide o POINTER e v unchanged
-  load-reads (write wide o v) clear (toData e a) = writes wide o DATA e v (same-write clear a (bytesOf (lanesAt wide o) v))
+  load-reads (read wide o) (toBank e) = reads wide o BANK e unchanged
+  load-reads (read wide o) (toPacket e) = reads wide o PACKET e unchanged
+  load-reads (read wide o) (toPointer e) = reads wide o POINTER e unchanged
+  load-reads (read wide o) (toData e clear a) = reads wide o DATA e (same-read clear a (width (lanesAt wide o)))
+  load-reads (write wide o v) (toBank e) = writes wide o BANK e v (in-low (lanesAt wide o) unchanged)
+  load-reads (write wide o v) (toPacket e) = writes wide o PACKET e v (in-low (lanesAt wide o) unchanged)
+  load-reads (write wide o v) (toPointer e) = writes wide o POINTER e v unchanged
+  load-reads (write wide o v) (toData e clear a) = writes wide o DATA e v (same-write clear a (bytesOf (lanesAt wide o) v))
 
 -- what a load may change
 pub record Loaded (c : Chip) (s : Effect) : Type 0 where
@@ -160,19 +160,19 @@ module _ (c : Chip) where
         (λ h. record { registers = refl; pool = refl; memory = λ i k. put-outside pages i k bytes (address (c .regs .pointer)) (c .memory) h }))
 
   -- A load writes bank, packet number and pointer, and memory in the pages of the packet in the packet number register: nothing that a frame reads.
-  pub load-writes : (start : Chip) (a : Access) → Clear c → Load start c a → Loaded c (access a c)
+  pub load-writes : (start : Chip) (a : Access) → Load start c a → Loaded c (access a c)
   unfolding access readRegister writeRegister
-  load-writes start (read wide o) clear l = pick-by (Loaded c) (misplaced wide o) (λ t. no-byte) (λ t. go l)
+  load-writes start (read wide o) l = pick-by (Loaded c) (misplaced wide o) (λ t. no-byte) (λ t. go l)
     where
       go : Load start c (read wide o) → Loaded c (readRegister (registerAt (c .regs .numbers .bank) o) (lanesAt wide o) c)
       go (toBank e) = rw e no-byte
       go (toPacket e) = rw e no-byte
       go (toPointer e) = rw e no-byte
-      go (toData e a) = rw e (data-read clear (width (lanesAt wide o)))
-  load-writes start (write wide o v) clear l = pick-by (Loaded c) (misplaced wide o) (λ t. no-byte) (λ t. go l)
+      go (toData e clear a) = rw e (data-read clear (width (lanesAt wide o)))
+  load-writes start (write wide o v) l = pick-by (Loaded c) (misplaced wide o) (λ t. no-byte) (λ t. go l)
     where
       go : Load start c (write wide o v) → Loaded c (writeRegister (registerAt (c .regs .numbers .bank) o) (lanesAt wide o) v c)
       go (toBank e) = rw e (low-or-none (lanesAt wide o) _ no-byte)
       go (toPacket e) = rw e (low-or-none (lanesAt wide o) _ no-byte)
       go (toPointer e) = rw e no-byte
-      go (toData e a) = rw e (data-written clear (bytesOf (lanesAt wide o) v))
+      go (toData e clear a) = rw e (data-written clear (bytesOf (lanesAt wide o) v))

@@ -50,7 +50,7 @@ listening-whole = (formed-decides 24 listening .sound refl, length-replicate {A 
 
 pub filling-loads : Loads listening listening filling
 unfolding bit lowByte highByte wordOf member some? place putBytes address advance next ifPacket against oddFixed past ifOpen writeData registerAt misplaced lanesAt merged bytesOf lowOnly writeRegister access
-filling-loads = (refl, toBank refl, (refl, toPacket refl, (refl, toPointer refl, (refl, toData refl refl, tt))))
+filling-loads = (toBank refl, (toPacket refl, (toPointer refl, (toData refl refl refl, tt))))
 
 -- what is seen of the run: all is done, and both frames are stored (value 0); they are packets 1 and 2 of RX; the word stands in packet 0, and the second frame's first byte in page 2
 pub record Seen : Type 0 where

@@ -83,7 +83,7 @@ module _ (n : ℕ) where
   after-frame f loads c r = ready-after (frame f) c loads loads r (loads-after-frame f loads c (r .run))
 
   exchanged : (a : Access) (rest : List Access) (f : Frame) (c : Chip) → Ready c (a ∷ rest) → Exchanged a f c
-  exchanged a rest f c r = exchange a f c (r .run .0) (r .run .1)
+  exchanged a rest f c r = exchange a f c (r .run .0)
 
   none-answered : (c : Chip) → runOf n [] c .replies ≡ []
   unfolding runOf

@@ -16,7 +16,6 @@ use Rattle.rules.specs.Receive.{Frame, sameBytes, broadcast, group, inTable, ac
 use Rattle.rules.specs.Data.{address, advance, next, ifPacket, against, oddFixed, past, ifOpen, valueOf, readData}
 use Rattle.rules.specs.Registers.{Access, read, word, registerAt, misplaced, lanesAt, taken, width, headOf, readRegister, access}
 use Rattle.rules.specs.Step.{Input, driver, frame, serve, stepOf, runOf, run}
-use Rattle.laws.specs.Loads.{Loads}
 
 -- a chip that receives, with bank 2 selected and this pointer
 abbrev listening : ℕ → Chip

@@ -1,26 +1,33 @@
--- Which steps are a soft or an MMU reset to the ledger: what document 01 calls so, on any well-formed chip.
+-- Which steps are a soft or an MMU reset to the ledger: all that document 01 calls so, on any well-formed chip.
 use mathlib.Core.Path.{_≡_, refl}
+use mathlib.Core.Bool.{true, false}
 use Prim.Native.Nat.{ℕ}
-use Rattle.rules.specs.Bits.{bit, lowByte, highByte, wordOf, clearBit}
+use Rattle.rules.specs.Bits.{bit, lowByte}
 use Rattle.rules.specs.Chip.{Chip}
 use Rattle.rules.specs.Mmu.{decode, perform}
-use Rattle.rules.specs.Registers.{byte, word, both, write, registerAt, misplaced, lanesAt, merged, newRcr, writeRcr, lowOnly, writeRegister, access}
+use Rattle.rules.specs.Registers.{Width, Lanes, low, high, both, RCR, COMMAND, write, registerAt, misplaced, lanesAt, newRcr, writeRcr, lowOnly, writeRegister, access}
 use Rattle.rules.specs.Step.{driver, serve}
-use Rattle.wellformed.specs.Cases.{pick}
 use Rattle.wellformed.specs.Fit.{step-fit}
 use Rattle.laws.specs.Ledger.{Resets, commandEntries, writeEntries, inputEntries, entriesOf}
 use Rattle.laws.specs.Theorems.{Whole}
 
--- "40h frees all pages", written to the MMU command register in bank 2
-pub mmu-reset : (c : Chip) → Whole c → c .regs .numbers .bank ≡ 2 → Resets 24 (driver (write byte 0 0x40)) c
-unfolding entriesOf inputEntries writeEntries commandEntries serve access registerAt misplaced lanesAt bit lowByte decode perform lowOnly writeRegister
-mmu-reset c w b = rw (step-fit 24 (driver (write byte 0 0x40)) c w, b) refl
+top-bit : bit 15 0x8000 ≡ true
+unfolding bit
+top-bit = refl
 
--- "A write to either byte of RCR that leaves its bit 15 set": here the word 8000h, in bank 0
-left-8000 : (x : ℕ) → newRcr both 0x8000 x ≡ 0x8000
-unfolding newRcr bit clearBit merged lowByte highByte wordOf
-left-8000 x = pick (λ (y : ℕ). y ≡ 0x8000) (bit 0 x) refl refl
+-- A write that is placed, of the value v at an offset.
+module _ (c : Chip) (whole : Whole c) (w : Width) (offset v : ℕ) (placed : misplaced w offset ≡ false) where
+  -- "40h frees all pages": 40h, written to the MMU command register
+  pub mmu-reset : registerAt (c .regs .numbers .bank) offset ≡ COMMAND → (lanesAt w offset ≡ high → ⊥) → lowByte v ≡ 0x40 → Resets 24 (driver (write w offset v)) c
+  unfolding entriesOf inputEntries writeEntries commandEntries serve access decode perform lowOnly writeRegister
+  mmu-reset reached lane value = go (lanesAt w offset) refl
+    where
+      go : (p : Lanes) → lanesAt w offset ≡ p → Resets 24 (driver (write w offset v)) c
+      go low e = rw (step-fit 24 (driver (write w offset v)) c whole, placed, reached, e, value) refl
+      go high e = absurd (lane e)
+      go both e = rw (step-fit 24 (driver (write w offset v)) c whole, placed, reached, e, value) refl
 
-pub soft-reset : (c : Chip) → Whole c → c .regs .numbers .bank ≡ 0 → Resets 24 (driver (write word 4 0x8000)) c
-unfolding entriesOf inputEntries writeEntries serve access registerAt misplaced lanesAt bit writeRcr writeRegister
-soft-reset c w b = rw (step-fit 24 (driver (write word 4 0x8000)) c w, b, left-8000 (c .regs .receiving .rcr)) refl
+  -- "A write to either byte of RCR that leaves its bit 15 set resets"
+  pub soft-reset : registerAt (c .regs .numbers .bank) offset ≡ RCR → bit 15 (newRcr (lanesAt w offset) v (c .regs .receiving .rcr)) ≡ true → Resets 24 (driver (write w offset v)) c
+  unfolding entriesOf inputEntries writeEntries serve access writeRcr writeRegister
+  soft-reset reached set = rw (step-fit 24 (driver (write w offset v)) c whole, placed, reached, set, top-bit) refl

@@ -1,4 +1,4 @@
--- Demands 2 and 3 at the chip of document 01, with its 24 pages: what the modules before it prove for any size, and how a driver reads the free count.
+-- Demand 2 at the chip of document 01, with its 24 pages: what the modules before it prove for any size, and that a driver reads the free count.
 use mathlib.Core.Path.{_≡_, refl, ap, ap₂, sym, subst, _∙_}
 use mathlib.Core.Logic.{_⊎_}
 use mathlib.Core.List.{List, [], _∷_, _++_}

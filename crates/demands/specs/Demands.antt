@@ -1,0 +1,112 @@
+-- The client's three demands, a record for each, of the rules and of the code; each is proved by citing what leads to it.
+-- Of the rules: `step` and `run` (rules/specs/Step) on any chip. Of the code: `Serves i b x`, what the public entries `chip::access`, `chip::frame` and `chip::send` promise of the input i on
+-- any board b (registers, page sets and queues by value, and the memory lent), and `Runs` of inputs one after another; `chipOf b` is the chip that a board stands for, `replyTo x` document 01's number and value.
+use mathlib.Core.Path.{_≡_}
+use mathlib.Core.Bool.{Bool, true, false}
+use mathlib.Core.Logic.{_⊎_}
+use mathlib.Core.List.{List, _∷_, _++_, map}
+use Prim.Native.Nat.{ℕ, _<_}
+use lib.ListN.{length}
+use Rattle.rules.specs.Lists.{member}
+use Rattle.rules.specs.Chip.{Chip, powerUp}
+use Rattle.rules.specs.Interrupts.{lineUp}
+use Rattle.rules.specs.Registers.{Access}
+use Rattle.rules.specs.Receive.{Frame}
+use Rattle.rules.specs.Send.{Send}
+use Rattle.rules.specs.Step.{Input, driver, frame, sent, lent, step, run, history}
+use Rattle.laws.specs.Refusals.{refusals, Unchanged, numbers-given, refusal-leaves, sixteen-where, sixteen-there, never-seventeen, short-gets-15}
+use Rattle.laws.specs.Accounted.{IsFree, InOne}
+use Rattle.laws.specs.Ledger.{Ledger, Resets, blank, ledgerFrom}
+use Rattle.laws.specs.Reading.{Balances}
+use Rattle.laws.specs.Loads.{Loads}
+use Rattle.laws.specs.Merge.{Merge, Alike, any-two}
+use Rattle.laws.specs.Theorems.{Whole, power-up-whole, step-whole, pages-accounted, since-power-up, since-reset}
+use Rattle.state.specs.declared.Returned.{Returned}
+use Rattle.chip.specs.Inputs.{Started, Lines}
+use Rattle.demands.specs.Boards.{Board, Left, replyTo, chipOf, ReadyBy, Good, Serves, Runs, boardAfter, AsRules, serves-right, serves-once}
+use Rattle.demands.specs.OfCode.{serves-numbers, serves-leaves, serves-sixteen, serves-no17, serves-short, serves-pages, started, BalancesOn, runs-balanced, runs-balanced-since, AlikeOn, any-two-on}
+
+-- Demand 1. "Every access, arriving frame and send gets an answer, whatever numbers and bytes come in. What the sheet forbids or the model lacks is refused by a number of document 01; a refusal changes no
+-- register, no packet byte and nothing in the output buffer." (`step` is a function on every input and chip, and the public entries ask nothing of what they are given: each call has a result.)
+pub record Demand1 : Type 0 where
+  -- the number is 0, 16 or one of document 01's for that kind of input: a read never 3, 4 or 6, an access never 11 to 15, a frame only 11, a send only 11 to 15
+  pub numbers : (i : Input) (c : Chip) → member (step i c .reply .number) (0 ∷ 16 ∷ refusals i) ≡ true
+  -- a number other than 0 comes with value 0, and with the chip and the output buffer as they were
+  pub leaves : (i : Input) (c : Chip) → (step i c .reply .number ≡ 0 → ⊥) → Unchanged c (lent i) (step i c)
+  -- 16 exactly where the memory has not 6,144 bytes or the chip is not well formed; 17 never
+  pub sixteen : (i : Input) (c : Chip) → (step i c .reply .number ≡ 16 → Whole c → ⊥) × ((Whole c → ⊥) → step i c .reply .number ≡ 16)
+  pub no17 : (i : Input) (c : Chip) → step i c .reply .number ≡ 17 → ⊥
+  -- a send whose buffer has not 2,048 bytes gets 15
+  pub short : (s : Send) (out : List ℕ) (c : Chip) → Whole c → length out < 2048 → step (sent s out) c .reply .number ≡ 15
+  -- Of the code, the same: a refusal leaves registers, page sets, queues and memory, all of them, and the output buffer; 16 is given exactly where the board is not in order.
+  pub codeNumbers : (i : Input) (b : Board) (x : Left) → Serves i b x → member (replyTo x .number) (0 ∷ 16 ∷ refusals i) ≡ true
+  pub codeLeaves : (i : Input) (b : Board) (x : Left) → Serves i b x → (replyTo x .number ≡ 0 → ⊥) → (replyTo x .value ≡ 0) × (x .board ≡ b) × (x .output ≡ lent i)
+  pub codeSixteen : (i : Input) (b : Board) (x : Left) → Serves i b x → (replyTo x .number ≡ 16 → Good b → ⊥) × ((Good b → ⊥) → replyTo x .number ≡ 16)
+  pub codeNo17 : (i : Input) (b : Board) (x : Left) → Serves i b x → replyTo x .number ≡ 17 → ⊥
+  pub codeShort : (s : Send) (out : List ℕ) (b : Board) (x : Left) → Good b → Serves (sent s out) b x → length out < 2048 → replyTo x .number ≡ 15
+
+-- Demand 2. "Every step does what document 01 says: answer, registers, interrupt bits, queues, all 6,144 bytes. After each step from a well-formed state every page is free or in exactly one packet, and the free
+-- count that the driver reads is 24 less the pages granted plus those given back, counted over the steps since power-up or the last soft or MMU reset."
+pub record Demand2 : Type 0 where
+  -- a chip is well formed, with its 6,144 bytes, at power-up and after each step from one that is
+  pub powers : Whole powerUp
+  pub keeps : (i : Input) (c : Chip) → Whole c → Whole (step i c .chip)
+  pub pages : (i : Input) (c : Chip) → Whole c → (p : ℕ) → p < 24 → IsFree (step i c .chip) p ⊎ InOne (step i c .chip) p
+  -- MIR read as a byte and as a word, after selecting bank 0 from any bank or in bank 0 already, balances the ledger: after every history from power-up, and after every run from any well-formed chip, whatever was granted
+  -- before, once a step of it was a soft or MMU reset
+  pub ledger : (inputs : List Input) → Balances (history inputs .chip) (ledgerFrom 24 inputs powerUp (blank 24))
+  pub ledgerSince : (c : Chip) → Whole c → (l : Ledger) (before : List Input) (i : Input) (after : List Input) → Resets 24 i (run before c .chip)
+      → Balances (run (before ++ (i ∷ after)) c .chip) (ledgerFrom 24 (before ++ (i ∷ after)) c l)
+  -- Of the code: power-up is the rules'; each step on a board in order is the rules' step of its chip (the whole chip after it, the reply and the output) and leaves one result; so is the line, and of a record that is not in order it is down.
+  pub codePowers : (x : Returned) → Started x → (chipOf (started x) ≡ powerUp) × Good (started x)
+  pub codeStep : (i : Input) (b : Board) (x : Left) → Good b → Serves i b x → AsRules (step i (chipOf b)) x
+  pub codeOnly : (i : Input) (b : Board) (x y : Left) → Serves i b x → Serves i b y → x ≡ y
+  pub codeLine : (b : Board) (up : Bool) → Lines (b .registers) (b .pages) (b .queues) up
+      → (ReadyBy b → up ≡ lineUp (chipOf b)) × ((ReadyBy b → ⊥) → up ≡ false)
+  pub codePages : (i : Input) (b : Board) (x : Left) → Good b → Serves i b x → (p : ℕ) → p < 24 → IsFree (chipOf (x .board)) p ⊎ InOne (chipOf (x .board)) p
+  pub codeLedger : (x : Returned) → Started x → (inputs : List Input) (xs : List Left) → Runs inputs (started x) xs → BalancesOn (boardAfter (started x) xs) (ledgerFrom 24 inputs powerUp (blank 24))
+  pub codeLedgerSince : (b : Board) → Good b → (l : Ledger) (before : List Input) (i : Input) (after : List Input) → Resets 24 i (run before (chipOf b) .chip)
+      → (xs : List Left) → Runs (before ++ (i ∷ after)) b xs → BalancesOn (boardAfter b xs) (ledgerFrom 24 (before ++ (i ∷ after)) (chipOf b) l)
+
+-- Demand 3. "Loading and reception do not disturb each other: a run of bank selections and accesses to packet number, pointer and data (receive bit clear throughout, each data access on a packet allocated before
+-- the run), merged in any way with arriving frames, ends in the same registers, queues and memory with the same answers." Any two merges, on any chip (`laws/specs/Meanwhile`: on a well-formed one, with frames stored meanwhile).
+pub record Demand3 : Type 0 where
+  pub anyTwo : (c : Chip) (loads : List Access) (frames : List Frame) → Loads c c loads → {zs others : List Input}
+      → (m : Merge (map driver loads) (map frame frames) zs) (k : Merge (map driver loads) (map frame frames) others) → Alike 24 c m k
+  -- Of the code: on any board, the same registers, page sets, queues and memory.
+  pub codeAnyTwo : (b : Board) (loads : List Access) (frames : List Frame) → Loads (chipOf b) (chipOf b) loads → {zs others : List Input}
+      → (m : Merge (map driver loads) (map frame frames) zs) (k : Merge (map driver loads) (map frame frames) others)
+      → (xs ys : List Left) → Runs zs b xs → Runs others b ys → AlikeOn b m xs k ys
+
+pub demand1 : Demand1
+demand1 = record {
+  numbers = numbers-given 24;
+  leaves = refusal-leaves 24;
+  sixteen = λ i c. (sixteen-where 24 i c, sixteen-there 24 i c);
+  no17 = never-seventeen 24;
+  short = short-gets-15 24;
+  codeNumbers = serves-numbers;
+  codeLeaves = serves-leaves;
+  codeSixteen = serves-sixteen;
+  codeNo17 = serves-no17;
+  codeShort = serves-short;
+}
+
+pub demand2 : Demand2
+demand2 = record {
+  powers = power-up-whole;
+  keeps = step-whole;
+  pages = pages-accounted;
+  ledger = since-power-up;
+  ledgerSince = since-reset;
+  codePowers = λ x s. (s .chip, s .ready);
+  codeStep = serves-right;
+  codeOnly = serves-once;
+  codeLine = λ b up l. (λ r. l .up r (b .memory), l .down);
+  codePages = serves-pages;
+  codeLedger = runs-balanced;
+  codeLedgerSince = runs-balanced-since;
+}
+
+pub demand3 : Demand3
+demand3 = record { anyTwo = any-two 24; codeAnyTwo = any-two-on }

@@ -1,0 +1,1 @@
+// No code: statements in specs/.
