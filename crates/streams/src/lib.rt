@@ -1,0 +1,3 @@
+mod wait;
+
+pub use wait::pause;
