@@ -56,13 +56,12 @@ goes-on {l} {m} {n} {i} {j} {k} {a} {b} s w h =
       place = w .place ∙ q;
     }
 
--- So many bytes stand behind the number.
-pub rest-length : (answer value : ℕ) → answer < 256 → (8 ≤ length (rest answer value)) × (length (rest answer value) ≤ 10)
+-- So many bytes stand behind the number, before the line's end.
+pub rest-length : (answer value : ℕ) → answer < 256 → (7 ≤ length (rest answer value)) × (length (rest answer value) ≤ 9)
 unfolding hex4
 rest-length answer value h =
     let a = length-append (leading (answer / 10)) ((0x30 + answer % 10) ∷ []) in
     let b = ap length (decimal-ends answer) in
     let c = decimal-length 2 answer (omega arith) in
-    let d = length-append ((0x20 ∷ decimal answer) ++ (0x20 ∷ hex4 value)) (0x0a ∷ []) in
     let e = length-append (0x20 ∷ decimal answer) (0x20 ∷ hex4 value) in
-    (omega (arith, a, b, d, e), omega (arith, c, d, e))
+    (omega (arith, a, b, e), omega (arith, c, e))

@@ -3,6 +3,7 @@ use state::Width;
 ghost use mathlib.Core.Path.{_≡_};
 ghost use lib.ListN.{length};
 ghost use Rattle.rules.specs.Bench.{eventOf};
+ghost use Rattle.rules.specs.Watch.{isSend};
 ghost use Rattle.records.specs.Event.{meant};
 
 // Width, offset and value of an access, the count of wire bytes, the flags bad CRC and alignment, and a send's outcome, collisions and deferral.
@@ -33,4 +34,12 @@ pub fn event_of(bytes: &[u8]) -> Event
         7 => Event::Send(bytes[1], bytes[2], bytes[3]),
         _ => Event::Unknown,
     }
+}
+
+// Is it a send?
+pub fn is_send(bytes: &[u8]) -> bool
+    requires { ⌜ length (now bytes) ≡ 8 ⌝ }
+    ensures { λ r. ⌜ r ≡ isSend (eventOf (now (bytes .entry))) ⌝ }
+{
+    bytes[0] == 7
 }

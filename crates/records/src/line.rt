@@ -13,7 +13,7 @@ ghost use Rattle.records.specs.Word.{bytes4, bytes8};
 ghost use Rattle.records.specs.Counting.{Counts};
 ghost use Rattle.records.specs.Parts.{Begins, rest};
 
-fn byte_at(lines: &mut [u8], at: usize, x: u8) -> usize
+pub fn byte_at(lines: &mut [u8], at: usize, x: u8) -> usize
     requires { ⌜ at + 1 ≤ length (now lines) ⌝ }
     ensures { λ r. ⌜ Writes (now (lines .entry)) at (x ∷ []) (now (lines .exit)) r ⌝ }
 {
@@ -97,7 +97,7 @@ fn eight_at(lines: &mut [u8], at: usize, x: u64) -> usize
 }
 
 // The record's number. Up to eight bytes behind it may change: the rest of the line is written over them.
-fn number_at(lines: &mut [u8], at: usize, counter: Counter) -> usize
+pub fn number_at(lines: &mut [u8], at: usize, counter: Counter) -> usize
     requires { ⌜ Counts counter × (at + 20 ≤ length (now lines)) ⌝ }
     ensures { λ r. ⌜ Begins (now (lines .entry)) at (decimal (counter .number)) (now (lines .exit)) r ⌝ }
 {
@@ -108,16 +108,15 @@ fn number_at(lines: &mut [u8], at: usize, counter: Counter) -> usize
     at + counter.length
 }
 
-// The rest of the line: the answer and its value.
-fn shown_at(lines: &mut [u8], at: usize, shown: Shown) -> usize
-    requires { ⌜ at + 10 ≤ length (now lines) ⌝ }
+// What stands behind the number: the answer and its value.
+pub fn shown_at(lines: &mut [u8], at: usize, shown: Shown) -> usize
+    requires { ⌜ at + 9 ≤ length (now lines) ⌝ }
     ensures { λ r. ⌜ Writes (now (lines .entry)) at (rest (shown .0) (shown .1)) (now (lines .exit)) r ⌝ }
 {
     let b = byte_at(lines, at, 0x20);
     let c = small_at(lines, b, shown.0 as u32);
     let d = byte_at(lines, c, 0x20);
-    let e = word_at(lines, d, hex_word(shown.1));
-    byte_at(lines, e, 0x0a)
+    word_at(lines, d, hex_word(shown.1))
 }
 
 // The line of a record, at a place of the buffer; returns the place behind it. All other bytes stay.
@@ -126,5 +125,6 @@ pub fn line_at(lines: &mut [u8], at: usize, counter: Counter, shown: Shown) -> u
     ensures { λ r. ⌜ Writes (now (lines .entry)) at (line (counter .number) (record { number = shown .0; value = shown .1 })) (now (lines .exit)) r × (r ≤ at + 30) ⌝ }
 {
     let mid = number_at(lines, at, counter);
-    shown_at(lines, mid, shown)
+    let end = shown_at(lines, mid, shown);
+    byte_at(lines, end, 0x0a)
 }

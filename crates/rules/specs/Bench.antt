@@ -88,19 +88,30 @@ hexDigit d = cond (ltb d 10) (0x30 + d) (0x57 + d)
 unfoldable pub hex4 : ℕ → List ℕ
 hex4 x = hexDigit (x / 4096 % 16) ∷ hexDigit (x / 256 % 16) ∷ hexDigit (x / 16 % 16) ∷ hexDigit (x % 16) ∷ []
 
--- "Each line: record number from 1, answer, value (0 if none) as four lower-case hex digits." "Bytes put out by a send are not printed."
+-- "record number from 1, answer, value (0 if none) as four lower-case hex digits"
+abbrev pub entry : ℕ → Reply → List ℕ
+entry number r = decimal number ++ (0x20 ∷ decimal (r .number)) ++ (0x20 ∷ hex4 (r .value))
+
+-- "Each line" is that. "Bytes put out by a send are not printed."
 unfoldable pub line : ℕ → Reply → List ℕ
-line number r = decimal number ++ (0x20 ∷ decimal (r .number)) ++ (0x20 ∷ hex4 (r .value)) ++ (0x0a ∷ [])
+line number r = entry number r ++ (0x0a ∷ [])
+
+-- a program's line, by the record's number, what the record asks for and the answer to it; the bench's
+abbrev pub Form : Type 0
+Form = ℕ → Event → Answered → List ℕ
+
+abbrev pub plain : Form
+plain number e a = line number (a .reply)
 
 -- what is printed for the records in the input, from record number k on; a tail of 1 to 7 bytes is one line with 17
 -- (n bounds the records, of which there are no more than bytes)
-unfoldable pub printed : ℕ → ℕ → List ℕ → Bench → List ℕ
-printed zero k input b = []
-printed (suc n) k [] b = []
-printed (suc n) k (x ∷ xs) b =
-    cond (ltb (length (x ∷ xs)) 8) (line k (refusal 17))
-    (let a = answer (eventOf (take 8 (x ∷ xs))) b in line k (a .reply) ++ printed n (k + 1) (drop 8 (x ∷ xs)) (a .after))
+unfoldable pub printed : Form → ℕ → ℕ → List ℕ → Bench → List ℕ
+printed form zero k input b = []
+printed form (suc n) k [] b = []
+printed form (suc n) k (x ∷ xs) b =
+    let e = eventOf (take 8 (x ∷ xs)) in
+    cond (ltb (length (x ∷ xs)) 8) (form k unknown (answer unknown b)) (form k e (answer e b) ++ printed form n (k + 1) (drop 8 (x ∷ xs)) (answer e b .after))
 
 -- what the program prints for its standard input
 abbrev pub bench : List ℕ → List ℕ
-bench input = printed (length input) 1 input started
+bench input = printed plain (length input) 1 input started

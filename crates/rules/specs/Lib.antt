@@ -24,3 +24,5 @@ pub mod Send
 pub mod Step
 -- "Bench program and its records"
 pub mod Bench
+-- Not in document 01: what the program "watch" prints.
+pub mod Watch

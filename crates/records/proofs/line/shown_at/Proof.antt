@@ -18,10 +18,6 @@ few s = decimal-length 2 (s .args .shown .0) (search needs)
 answer-ends : (c : tie.After-small-at) → c .small-at .result ≤ c .before .before .before .before .before .before .before .before .args .at + 4
 answer-ends c = omega (arith, few (c .before .before .before .before .before .before .before .before), c .small-at .ensures .place, c .before .before .before .before .before .byte-at .ensures .place)
 
-value-ends : (c : tie.After-word-at) → c .word-at .result ≤ c .before .before .before .before .before .before .before .before .before .before .before .before .before .before .before .before .before .args .at + 9
-unfolding bytes4
-value-ends c = omega (arith, answer-ends (c .before .before .before .before .before .before .before .before .before), c .before .before .before .before .before .byte-at2 .ensures .place, c .word-at .ensures .place)
-
 small-at-requires : tie.Need-small-at-requires
 small-at-requires c κs =
     let s = c .before .before .before .before .before .before .before in
@@ -33,23 +29,19 @@ byte-at-requires-2 c κs = omega (arith, answer-ends (c .before .before .before)
 word-at-requires : tie.Need-word-at-requires
 word-at-requires c κs = omega (arith, answer-ends (c .before .before .before .before .before .before .before .before), c .before .before .before .before .byte-at2 .ensures .place)
 
-byte-at-requires-3 : tie.Need-byte-at-requires-3
-byte-at-requires-3 c κs = omega (arith, value-ends (c .before .before .before))
-
--- The parts, one behind the other, are the rest of the line.
-parts : (a h : List ℕ) → (0x20 ∷ []) ++ a ++ (0x20 ∷ []) ++ h ++ (0x0a ∷ []) ≡ (0x20 ∷ a) ++ (0x20 ∷ h) ++ (0x0a ∷ [])
+-- The parts, one behind the other, are what stands behind the number.
+parts : (a h : List ℕ) → (0x20 ∷ []) ++ a ++ (0x20 ∷ []) ++ h ≡ (0x20 ∷ a) ++ (0x20 ∷ h)
 parts a h = simp append-assoc
 
 returns : tie.Need-returns
 returns c =
-    let s = c .before .before .before .before .before .before .before .before .before .before .before .before .before .before .before .before .before .before .before .before .before .before .before in
+    let s = c .before .before .before .before .before .before .before .before .before .before .before .before .before .before .before .before .before .before .before in
     let r : s .args .at ≤ length (s .args .lines .now) = omega (arith, s .pre) in
-    let first = c .before .before .before .before .before .before .before .before .before .before .before .before .before .before .before .before .before .before .before .before .byte-at .ensures in
-    let answer = c .before .before .before .before .before .before .before .before .before .before .before .before .before .before .before .small-at .ensures in
-    let second = c .before .before .before .before .before .before .before .before .before .before .before .byte-at2 .ensures in
-    let value = writes-as (c .before .before .before .before .before .before .before .hex-word .ensures) (c .before .before .before .before .before .before .word-at .ensures) in
-    writes-as (parts (decimal (s .args .shown .0)) (hex4 (s .args .shown .1)))
-    (writes-on r (writes-on r (writes-on r (writes-on r first answer) second) value) (c .before .before .byte-at3 .ensures))
+    let first = c .before .before .before .before .before .before .before .before .before .before .before .before .before .before .before .before .byte-at .ensures in
+    let answer = c .before .before .before .before .before .before .before .before .before .before .before .small-at .ensures in
+    let second = c .before .before .before .before .before .before .before .byte-at2 .ensures in
+    let value = writes-as (c .before .before .before .hex-word .ensures) (c .before .before .word-at .ensures) in
+    writes-as (parts (decimal (s .args .shown .0)) (hex4 (s .args .shown .1))) (writes-on r (writes-on r (writes-on r first answer) second) value)
 
 pub shown-at-spec : {M : Type 1} → statement M
 shown-at-spec =
@@ -61,6 +53,5 @@ shown-at-spec =
     byte-at-requires-2
     (λ c κs. search needs)
     word-at-requires
-    byte-at-requires-3
     (λ c. search needs)
     returns)
