@@ -1,4 +1,4 @@
 // The bench again, on the cases that document 01 marks "Run".
 fn main() {
-    serving::run();
+    serving::run(b"bench_runs");
 }

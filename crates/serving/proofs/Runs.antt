@@ -1,11 +1,13 @@
 -- Records answered one after another.
 use mathlib.Core.Path.{_≡_, refl, ap, ap₂, sym, _∙_}
+use mathlib.Core.Bool.{Bool}
 use mathlib.Core.List.{List, _++_, append-assoc}
 use Prim.Native.Nat.{ℕ, suc, _+_, _≤_}
 use native.Mathlib.Omega.{arith}
 use lib.ListN.{length, take, drop, length-append}
 use lib.Seq.{length-take-le, take-at}
-use Rattle.rules.specs.Bench.{Bench, Answered, answer, eventOf, line}
+use Rattle.rules.specs.Bench.{Bench, Answered, Form, answer, eventOf}
+use Rattle.rules.specs.Watch.{isSend}
 use Rattle.lists.specs.Written.{Writes}
 use Rattle.state.specs.declared.Answer.{Answer}
 use Rattle.state.specs.Meaning.{replyOf}
@@ -13,7 +15,7 @@ use Rattle.state.specs.View.{view}
 use Rattle.records.specs.Gathers.{holding}
 use Rattle.serving.specs.Turns.{Held, Turns}
 use Rattle.serving.specs.Batch as batch
-use Rattle.serving.specs.Batch.{recordAt, benchAfter, linesFor}
+use Rattle.serving.specs.Batch.{formOf, Prints, recordAt, benchAfter, linesFor}
 
 -- What stands before the place behind a piece of text: what stood before it, and the text.
 taken : {before after text : List ℕ} {at end : ℕ} → at ≤ length before → Writes before at text after end → take end after ≡ take at before ++ text
@@ -23,26 +25,32 @@ taken {before} {after} {text} {at} {end} h w =
     ∙ take-at (take at before ++ text) (drop (at + length text) before) end front
 
 -- No record is answered yet.
-pub none-yet : {k number : ℕ} (input w s q mem wire : List ℕ) (have : ℕ) (out lines : List ℕ) → number ≡ k → Held w s q mem wire have
-    → batch.Answered 0 k input (holding (view w s q mem) (take have wire) out) w s q mem wire have out lines 0 number
+pub none-yet : {form : Form} {k number : ℕ} (input w s q mem wire : List ℕ) (have : ℕ) (out lines : List ℕ) → number ≡ k → Held w s q mem wire have
+    → batch.Answered form 0 k input (holding (view w s q mem) (take have wire) out) w s q mem wire have out lines 0 number
 unfolding benchAfter linesFor
 none-yet input w s q mem wire have out lines e h = record { held = h; bench = refl; text = refl; counted = omega (arith, e) }
 
+-- what a turn leaves is the answer, and so another that is equal to it
+told-answer : {x y : Answered} {a : Answer} {w s q mem wire : List ℕ} {have : ℕ} {out : List ℕ} → Turns x a w s q mem wire have out → x ≡ y
+    → record { reply = replyOf a; after = holding (view w s q mem) (take have wire) out } ≡ y
+told-answer t e = (λ i. record { reply = t .reply i; after = t .bench i }) ∙ e
+
 -- One record more.
-pub one-more : (n n′ k : ℕ) (input : List ℕ) (b : Bench) (bytes : List ℕ) {w s q mem wire : List ℕ} {have : ℕ} {out lines : List ℕ} {end number : ℕ}
-    {x : Answer} {w′ s′ q′ mem′ wire′ : List ℕ} {have′ : ℕ} {out′ lines′ : List ℕ} {end′ number′ : ℕ}
+pub one-more : (watching : Bool) (n n′ k : ℕ) (input : List ℕ) (b : Bench) (bytes : List ℕ) {w s q mem wire : List ℕ} {have : ℕ} {out lines : List ℕ} {end number : ℕ}
+    {x : Answer} {sent : Bool} {w′ s′ q′ mem′ wire′ : List ℕ} {have′ : ℕ} {out′ lines′ : List ℕ} {end′ number′ : ℕ}
     → n′ ≡ suc n → bytes ≡ recordAt n input → end ≤ length lines
-    → batch.Answered n k input b w s q mem wire have out lines end number
+    → batch.Answered (formOf watching) n k input b w s q mem wire have out lines end number
     → Turns (answer (eventOf bytes) (holding (view w s q mem) (take have wire) out)) x w′ s′ q′ mem′ wire′ have′ out′
-    → Writes lines end (line number (replyOf x)) lines′ end′ → number′ ≡ number + 1
-    → batch.Answered n′ k input b w′ s′ q′ mem′ wire′ have′ out′ lines′ end′ number′
+    → Prints watching number x sent w′ out′ lines end lines′ end′ → sent ≡ isSend (eventOf bytes) → number′ ≡ number + 1
+    → batch.Answered (formOf watching) n′ k input b w′ s′ q′ mem′ wire′ have′ out′ lines′ end′ number′
 unfolding benchAfter linesFor
-one-more n n′ k input b bytes {w} {s} {q} {mem} {wire} {have} {out} i e₀ h a t z j =
+one-more watching n n′ k input b bytes {w} {s} {q} {mem} {wire} {have} {out} {w′ = w′} {s′ = s′} {q′ = q′} {mem′ = mem′} {wire′ = wire′} {have′ = have′} i e₀ h a t p g j =
+    let z = p s′ q′ mem′ (take have′ wire′) (eventOf bytes) (t .held .chip .ready .sound .queues) g in
     let e : answer (eventOf bytes) (holding (view w s q mem) (take have wire) out) ≡ answer (eventOf (recordAt n input)) (benchAfter n input b) =
     ap₂ (λ (l : List ℕ) (d : Bench). answer (eventOf l) d) e₀ (a .bench) in
     rw i (record {
       held = t .held;
       bench = t .bench ∙ ap (λ (y : Answered). y .after) e;
-      text = taken h z ∙ ap₂ (λ (x y : List ℕ). x ++ y) (a .text) (ap₂ line (a .counted) (t .reply ∙ ap (λ (y : Answered). y .reply) e));
+      text = taken h z ∙ ap₂ (λ (x y : List ℕ). x ++ y) (a .text) (λ m. formOf watching (a .counted m) (eventOf (e₀ m)) (told-answer t e m));
       counted = omega (arith, a .counted, j);
     })

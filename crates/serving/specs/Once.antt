@@ -50,8 +50,8 @@ module _ {w s q mem wire : List ℕ} {have : ℕ} {out w′ s′ q′ mem′ wir
   turns-once {x} {a} {b} p r = (one-answer a b (p .reply ∙ sym (r .reply)), bench-once (p .held) (r .held) (p .bench ∙ sym (r .bench)))
 
   -- The records of a read: the lines too, where they end, and the next number. (That they end within their buffer is promised beside it.)
-  pub answered-once : {n k : ℕ} {input : List ℕ} {b : rules.Bench} {lines lines′ : List ℕ} {end end′ number number′ : ℕ} → end ≤ length lines → end′ ≤ length lines′
-      → Answered n k input b w s q mem wire have out lines end number → Answered n k input b w′ s′ q′ mem′ wire′ have′ out′ lines′ end′ number′
+  pub answered-once : {form : rules.Form} {n k : ℕ} {input : List ℕ} {b : rules.Bench} {lines lines′ : List ℕ} {end end′ number number′ : ℕ} → end ≤ length lines → end′ ≤ length lines′
+      → Answered form n k input b w s q mem wire have out lines end number → Answered form n k input b w′ s′ q′ mem′ wire′ have′ out′ lines′ end′ number′
       → Same w s q mem wire have out w′ s′ q′ mem′ wire′ have′ out′ × (take end lines ≡ take end′ lines′) × (end ≡ end′) × (number ≡ number′)
   answered-once {lines} {lines′} h i p r =
       let t = p .text ∙ sym (r .text) in

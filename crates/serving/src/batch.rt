@@ -2,27 +2,43 @@
 use crate::turn::answer;
 use records::Counter;
 use state::Answer;
-ghost use Prim.Native.Nat.{_+_, _/_, _≤_};
+ghost use mathlib.Core.Path.{_≡_};
+ghost use mathlib.Core.List.{List};
+ghost use Prim.Native.Nat.{ℕ, _+_, _/_, _≤_};
 ghost use lib.ListN.{length, take};
-ghost use Rattle.rules.specs.Bench.{line};
-ghost use Rattle.lists.specs.Written.{Writes};
-ghost use Rattle.state.specs.Meaning.{replyOf};
-ghost use Rattle.state.specs.View.{view};
+ghost use Rattle.state.specs.View.{view, figures, Kept};
+ghost use Rattle.state.specs.Promise.{QueuesIn};
 ghost use Rattle.records.specs.Counting.{Counts};
 ghost use Rattle.records.specs.Gathers.{holding};
 ghost use Rattle.serving.specs.Turns.{Held};
-ghost use Rattle.serving.specs.Batch.{Answered};
+ghost use Rattle.serving.specs.Batch.{formOf, widest, roomFor, Prints, Answered};
 
-// The line of a record; returns the place behind it.
-pub fn print(lines: &mut [u8], at: usize, counter: Counter, answer: Answer) -> usize
-    requires { ⌜ Counts counter × (at + 40 ≤ length (now lines)) ⌝ }
-    ensures { λ end. ⌜ Writes (now (lines .entry)) at (line (counter .number) (replyOf answer)) (now (lines .exit)) end × (end ≤ at + 30) ⌝ }
+// The line of a record, the bench's or that of `watch`; returns the place behind it.
+pub fn print(
+    watching: bool,
+    lines: &mut [u8],
+    at: usize,
+    counter: Counter,
+    answer: Answer,
+    sent: bool,
+    words: &[u16],
+    out: &[u8],
+) -> usize
+    requires { ⌜ Kept (now words) × ((q : List ℕ) × QueuesIn (figures (now words)) q) ⌝ }
+    requires { ⌜ Counts counter × (length (now out) ≡ 2048) × (at + widest watching + 10 ≤ length (now lines)) ⌝ }
+    ensures { λ end. ⌜ Prints watching (counter .number) answer sent (now (words .entry)) (now (out .entry)) (now (lines .entry)) at (now (lines .exit)) end × (end ≤ at + widest watching) ⌝ }
 {
-    records::line_at(lines, at, counter, state::printed(answer))
+    let shown = state::printed(answer);
+    if !watching {
+        return records::line_at(lines, at, counter, shown);
+    }
+    let up = registers::line_up(words);
+    records::watched_at(lines, at, counter, shown, up, sent, out)
 }
 
 // Each complete record of the input; the lines stand before `end`.
 pub fn answer_all(
+    watching: bool,
     words: &mut [u16],
     sets: &mut [u32],
     queues: &mut [u8],
@@ -35,10 +51,10 @@ pub fn answer_all(
     end: &mut usize,
     number: &mut u64,
 )
-    requires { ⌜ Held (now words) (now sets) (now queues) (now memory) (now wire) (now have) ⌝ }
-    requires { ⌜ (length (now input) ≤ 8192) × (32768 ≤ length (now lines)) × (now number + 1024 ≤ 0xffffffffffffffff) ⌝ }
-    ensures answered { λ _. ⌜ Answered (length (now (input .entry)) / 8) (now (number .entry)) (now (input .entry)) (holding (view (now (words .entry)) (now (sets .entry)) (now (queues .entry)) (now (memory .entry))) (take (now (have .entry)) (now (wire .entry))) (now (out .entry))) (now (words .exit)) (now (sets .exit)) (now (queues .exit)) (now (memory .exit)) (now (wire .exit)) (now (have .exit)) (now (out .exit)) (now (lines .exit)) (now (end .exit)) (now (number .exit)) ⌝ }
-    ensures fits { λ _. ⌜ now (end .exit) ≤ 32768 ⌝ }
+    requires { ⌜ Held (now words) (now sets) (now queues) (now memory) (now wire) (now have) × (length (now out) ≡ 2048) ⌝ }
+    requires { ⌜ (length (now input) ≤ 8192) × (roomFor watching (length (now input) / 8) ≤ length (now lines)) × (now number + 1024 ≤ 0xffffffffffffffff) ⌝ }
+    ensures answered { λ _. ⌜ Answered (formOf watching) (length (now (input .entry)) / 8) (now (number .entry)) (now (input .entry)) (holding (view (now (words .entry)) (now (sets .entry)) (now (queues .entry)) (now (memory .entry))) (take (now (have .entry)) (now (wire .entry))) (now (out .entry))) (now (words .exit)) (now (sets .exit)) (now (queues .exit)) (now (memory .exit)) (now (wire .exit)) (now (have .exit)) (now (out .exit)) (now (lines .exit)) (now (end .exit)) (now (number .exit)) ⌝ }
+    ensures fits { λ _. ⌜ now (end .exit) ≤ length (now (lines .entry)) ⌝ }
 {
     let mut k = 0;
     *end = 0;
@@ -46,7 +62,8 @@ pub fn answer_all(
     while k < input.len() / 8 {
         let bytes = &input[8 * k..8 * k + 8];
         let given = answer(words, sets, queues, memory, wire, have, out, bytes);
-        *end = print(lines, *end, counter, given);
+        let sent = records::is_send(bytes);
+        *end = print(watching, lines, *end, counter, given, sent, words, out);
         counter = records::next(counter);
         k += 1;
     }

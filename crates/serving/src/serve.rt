@@ -1,23 +1,16 @@
 // From standard input to standard output: what is there is read, its complete records are answered, and their lines are written, until the input ends.
 use crate::batch::answer_all;
 use crate::batch::print;
-use libc::STDIN_FILENO;
-use libc::STDOUT_FILENO;
 use state::Answer;
+use streams::Reading;
 ghost use mathlib.Core.Path.{_≡_};
-ghost use Prim.Native.Nat.{_-_, _%_, _≤_, _<_};
+ghost use mathlib.Core.List.{List};
+ghost use Prim.Native.Nat.{ℕ, _+_, _-_, _/_, _%_, _≤_, _<_};
 ghost use lib.ListN.{length, take, drop};
+ghost use Rattle.state.specs.View.{figures, Kept};
+ghost use Rattle.state.specs.Promise.{QueuesIn};
 ghost use Rattle.serving.specs.Turns.{Held};
-
-// Reads what is there behind the bytes that are kept, and returns how many stand there then: as many as before where the input ends or cannot be read.
-fn read_more(input: &mut [u8], kept: usize) -> usize
-    requires { ⌜ kept ≤ length (now input) ⌝ }
-    ensures { λ filled. ⌜ (kept ≤ filled) × (filled ≤ length (now (input .entry))) × (take kept (now (input .exit)) ≡ take kept (now (input .entry))) ⌝ }
-{
-    let rest = &mut input[kept..];
-    let got = libc::read(STDIN_FILENO, rest);
-    kept + io::count(got, rest)
-}
+ghost use Rattle.serving.specs.Batch.{roomFor};
 
 // The bytes behind the last complete record go to the front; returns how many they are.
 fn keep_tail(input: &mut [u8], filled: usize) -> usize
@@ -34,26 +27,71 @@ fn keep_tail(input: &mut [u8], filled: usize) -> usize
     kept
 }
 
-// Writes the lines that stand before `end`, and says whether that went well.
-fn write_lines(lines: &[u8], end: usize) -> bool
-    requires { ⌜ end ≤ length (now lines) ⌝ }
+// How many lines end in these bytes.
+fn line_count(bytes: &[u8]) -> u64
+    ensures { λ n. ⌜ n ≤ length (now (bytes .entry)) ⌝ }
 {
-    io::write_all(STDOUT_FILENO, &lines[..end])
+    let mut n = 0;
+    let mut i = 0;
+    while i < bytes.len() {
+        if bytes[i] == 0x0a {
+            n += 1;
+        }
+        i += 1;
+    }
+    n
 }
 
-// The line of a record that the input's end cuts short.
-fn cut_short(lines: &mut [u8], kept: usize, number: u64)
-    requires { ⌜ 40 ≤ length (now lines) ⌝ }
+// Writes the lines that stand before `end`, the first being that of record `first`. Where that fails it says so, and behind which record; returns whether it went well.
+fn write_lines(program: &[u8], lines: &[u8], end: usize, first: u64) -> bool
+    requires { ⌜ (end ≤ length (now lines)) × (length (now lines) ≤ 0x100000) × (1 ≤ first) × (first < 0x8000000000000000) ⌝ }
 {
+    let done = streams::write_out(&lines[..end]);
+    if done == end {
+        return true;
+    }
+    streams::unwritten(program, first - 1 + line_count(&lines[..done]));
+    false
+}
+
+// The input is at its end, or cannot be read, which is said. A record that is cut short has its line.
+fn finish(
+    program: &[u8],
+    watching: bool,
+    words: &[u16],
+    out: &[u8],
+    lines: &mut [u8],
+    kept: usize,
+    number: u64,
+    reading: Reading,
+)
+    requires { ⌜ Kept (now words) × ((q : List ℕ) × QueuesIn (figures (now words)) q) × (length (now out) ≡ 2048) ⌝ }
+    requires { ⌜ (roomFor watching 1 ≤ length (now lines)) × (length (now lines) ≤ 0x100000) × (1 ≤ number) × (number < 0x8000000000000000) ⌝ }
+{
+    if let Reading::Failed = reading {
+        streams::unread(program, number - 1);
+    }
     if kept == 0 {
         return;
     }
-    let end = print(lines, 0, records::counter_of(number), Answer::CutShort);
-    write_lines(lines, end);
+    let counter = records::counter_of(number);
+    let end = print(
+        watching,
+        lines,
+        0,
+        counter,
+        Answer::CutShort,
+        false,
+        words,
+        out,
+    );
+    write_lines(program, lines, end, number);
 }
 
 // Every record is answered before more is waited for. The loop ends at record 2^63, which no run comes to.
 fn serve_from(
+    program: &[u8],
+    watching: bool,
     words: &mut [u16],
     sets: &mut [u32],
     queues: &mut [u8],
@@ -63,20 +101,22 @@ fn serve_from(
     input: &mut [u8],
     lines: &mut [u8],
 )
-    requires { ⌜ Held (now words) (now sets) (now queues) (now memory) (now wire) 0 ⌝ }
-    requires { ⌜ (length (now input) ≡ 8192) × (length (now lines) ≡ 32768) ⌝ }
+    requires { ⌜ Held (now words) (now sets) (now queues) (now memory) (now wire) 0 × (length (now out) ≡ 2048) ⌝ }
+    requires { ⌜ (8 ≤ length (now input)) × (length (now input) ≤ 8192) × (roomFor watching (length (now input) / 8) ≤ length (now lines)) × (length (now lines) ≤ 0x100000) ⌝ }
 {
     let mut have = 0;
     let mut end = 0;
     let mut number: u64 = 1;
     let mut kept = 0;
     while number < 0x8000000000000000 {
-        let filled = read_more(input, kept);
-        if filled == kept {
-            cut_short(lines, kept, number);
+        let reading = streams::read_more(input, kept);
+        let Reading::Filled(filled) = reading else {
+            finish(program, watching, words, out, lines, kept, number, reading);
             return;
-        }
+        };
+        let first = number;
         answer_all(
+            watching,
             words,
             sets,
             queues,
@@ -89,15 +129,17 @@ fn serve_from(
             &mut end,
             &mut number,
         );
-        if !write_lines(lines, end) {
+        if !write_lines(program, lines, end, first) {
             return;
         }
         kept = keep_tail(input, filled);
     }
 }
 
-// The bench, from power-up on.
-pub fn run() {
+// From power-up on, with these buffers for records and lines.
+fn start(program: &[u8], watching: bool, input: &mut [u8], lines: &mut [u8])
+    requires { ⌜ (8 ≤ length (now input)) × (length (now input) ≤ 8192) × (roomFor watching (length (now input) / 8) ≤ length (now lines)) × (length (now lines) ≤ 0x100000) ⌝ }
+{
     let start = chip::power_up();
     let registers = start.registers;
     let pages = start.pages;
@@ -108,16 +150,30 @@ pub fn run() {
     let mut memory = [0; 6144];
     let mut wire = [0; 2048];
     let mut out = [0; 2048];
-    let mut input = [0; 8192];
-    let mut lines = [0; 32768];
     serve_from(
+        program,
+        watching,
         &mut words,
         &mut sets,
         &mut queues,
         &mut memory,
         &mut wire,
         &mut out,
-        &mut input,
-        &mut lines,
+        input,
+        lines,
     );
+}
+
+// The bench; `program` is the name that it has on standard error.
+pub fn run(program: &[u8]) {
+    let mut input = [0; 8192];
+    let mut lines = [0; 32768];
+    start(program, false, &mut input, &mut lines);
+}
+
+// The same with the lines of `watch`, each of which may have 4,096 digits: it reads 64 records at once.
+pub fn watch(program: &[u8]) {
+    let mut input = [0; 512];
+    let mut lines = [0; 266240];
+    start(program, true, &mut input, &mut lines);
 }

@@ -1,28 +1,17 @@
--- Power-up leaves a chip in order.
 use borrow.Author.Needs.{needs}
 use Prim.Native.Nat.{ℕ}
+use native.Mathlib.Omega.{arith}
 use lib.ListN.{length-replicate}
+use Rattle.serving.specs.Batch.{roomFor}
 use Rattle.serving.proofs.serve.run.Statement.{statement}
 use Rattle.serving.proofs.serve.run.Tie as tie
 
-serve-from-requires : tie.Need-serve-from-requires
-serve-from-requires c κs = (
-  record { chip = c .before .before .before .before .before .before .before .before .before .before .before .before .before .before .power-up .ensures .ready; room = length-replicate {A = ℕ} 2048 0; few = search needs },
-  (length-replicate {A = ℕ} 8192 0, length-replicate {A = ℕ} 32768 0),
-)
+start-requires : tie.Need-start-requires
+unfolding roomFor
+start-requires c κs =
+    let i = length-replicate {A = ℕ} 8192 0 in
+    let l = length-replicate {A = ℕ} 32768 0 in
+    (omega (arith, i), omega (arith, i), omega (arith, i, l), omega (arith, l))
 
 pub run-spec : {M : Type 1} → statement M
-run-spec =
-    tie.close
-    (tie.spec
-    (λ c κs. search needs)
-    (λ c. search needs)
-    (λ c. search needs)
-    (λ c. search needs)
-    (λ c. search needs)
-    (λ c. search needs)
-    (λ c. search needs)
-    (λ c. search needs)
-    (λ c. search needs)
-    serve-from-requires
-    (λ c. search needs))
+run-spec = tie.close (tie.spec (λ c. search needs) (λ c. search needs) start-requires (λ c. search needs))

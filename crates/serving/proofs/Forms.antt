@@ -1,0 +1,50 @@
+-- The two forms of a line, and the room that lines take.
+use mathlib.Core.Path.{_≡_, refl, ap, sym, _∙_}
+use mathlib.Core.Bool.{Bool, true, false}
+use mathlib.Core.List.{List}
+use Prim.Native.Nat.{ℕ, _+_, _≤_}
+use native.Mathlib.Omega.{arith}
+use Rattle.rules.specs.Answers.{Reply}
+use Rattle.rules.specs.Interrupts.{lineUp}
+use Rattle.rules.specs.Bench.{Event, Answered, line}
+use Rattle.rules.specs.Watch.{isSend, watchLine}
+use Rattle.serving.specs.Batch.{formOf, widest, roomFor}
+
+-- a reply is its number and its value
+reply-of : {n v : ℕ} {r : Reply} → n ≡ r .number → v ≡ r .value → record { number = n; value = v } ≡ r
+reply-of e f = λ i. record { number = e i; value = f i }
+
+-- The bench's line is the form that is not watching, and the other that of `watch`.
+module _ {watching : Bool} (number : ℕ) (e : Event) (x : Answered) {n v : ℕ} (p : n ≡ x .reply .number) (q : v ≡ x .reply .value) where
+  pub plain-line : watching ≡ false → line number (record { number = n; value = v }) ≡ formOf watching number e x
+  plain-line w = ap (line number) (reply-of p q) ∙ sym (ap (λ (b : Bool). formOf b number e x) w)
+
+  pub watched-line : {up sent : Bool} → watching ≡ true → up ≡ lineUp (x .after .chip) → sent ≡ isSend e
+      → watchLine number (record { number = n; value = v }) up sent (x .after .output) ≡ formOf watching number e x
+  watched-line w u s = (λ i. watchLine number (reply-of {r = x .reply} p q i) (u i) (s i) (x .after .output)) ∙ sym (ap (λ (b : Bool). formOf b number e x) w)
+
+-- How long a line is.
+pub wide-plain : {w : Bool} → w ≡ false → widest w ≡ 30
+wide-plain e = ap widest e
+
+pub wide-watched : {w : Bool} → w ≡ true → widest w ≡ 4136
+wide-watched e = ap widest e
+
+-- The room for no line, for one more, and for fewer.
+pub room-none : (w : Bool) → roomFor w 0 ≡ 10
+unfolding roomFor
+room-none true = refl
+room-none false = refl
+
+pub room-more : (w : Bool) (k : ℕ) → roomFor w (k + 1) ≡ roomFor w k + widest w
+unfolding roomFor
+room-more true k = omega arith
+room-more false k = omega arith
+
+pub room-less : (w : Bool) {k n : ℕ} → k ≤ n → roomFor w k ≤ roomFor w n
+unfolding roomFor
+room-less true h = omega arith
+room-less false h = omega arith
+
+pub room-within : (w : Bool) {k n m : ℕ} → k ≤ n → roomFor w n ≤ m → roomFor w k ≤ m
+room-within w h l = omega (arith, room-less w h)

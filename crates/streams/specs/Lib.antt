@@ -1,0 +1,2 @@
+-- What a read promises.
+pub mod Reads
