@@ -406,6 +406,21 @@ fn streams_meet_every_answer() {
     assert_eq!(arrivals, (0..=5).collect());
 }
 
+/// Each bit of the status has the line up and down, alone in the mask.
+#[test]
+fn streams_move_the_line() {
+    let mut bench = Bench::default();
+    let mut seen = BTreeSet::new();
+    for record in generator::records(1, 50_000) {
+        let _ = bench.step(&record);
+        seen.insert((bench.chip.registers.mask, bench.chip.line_is_up()));
+    }
+    for mask in (0..6).map(|bit| 1 << bit) {
+        assert!(seen.contains(&(mask, false)), "down under {mask:02x}");
+        assert!(seen.contains(&(mask, true)), "up under {mask:02x}");
+    }
+}
+
 /// A good send to a group address: answer, value, line and the bytes put out.
 #[test]
 fn a_send_is_told_whole() {

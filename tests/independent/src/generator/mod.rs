@@ -88,6 +88,9 @@ impl Generator {
         if self.random.one_in(2) {
             self.look_around();
         }
+        if self.random.one_in(2) {
+            self.set_mask(); // another bit of the status decides the line
+        }
     }
 
     fn choose(&mut self, scenes: &[Scene]) -> fn(&mut Self) {
