@@ -421,6 +421,16 @@ fn streams_move_the_line() {
     }
 }
 
+/// Else a program that serves a tail would still print 17.
+#[test]
+fn tails_would_be_answered() {
+    for seed in 0..100 {
+        let whole = record(&generator::tail(seed));
+        let (answer, _) = numbers(Bench::default().step(&whole));
+        assert_ne!(answer, 17, "{whole:02x?}");
+    }
+}
+
 /// A good send to a group address: answer, value, line and the bytes put out.
 #[test]
 fn a_send_is_told_whole() {
