@@ -73,7 +73,7 @@ impl Gathered {
 pub struct Bench {
     pub chip: Chip,
     pub gathered: Gathered,
-    /// Bytes put out by sends; "not printed".
+    /// Bytes put out by sends; the bench's lines leave them out.
     pub output: [u8; OUTPUT_SIZE],
 }
 
@@ -123,18 +123,34 @@ impl Bench {
         let end = SendEnd::new(outcome, collisions, deferral)?;
         self.chip.send(end, &mut self.output)
     }
+
+    /// What the record just answered has put out, "for a send that is done";
+    /// "failed sends put out the same bytes".
+    pub fn put_out(&self, kind: u8, answer: Answer) -> Option<&[u8]> {
+        match (kind, answer) {
+            (7, Ok(length)) => Some(&self.output[..usize::from(length)]),
+            _ => None,
+        }
+    }
 }
 
 /// Appends an answer's line: "record number from 1, answer, value (0 if none)
 /// as four lower-case hex digits".
+#[inline] // with what it calls, for every record has a line
 pub fn push_line(lines: &mut Vec<u8>, number: u64, answer: Answer) {
+    push_answer(lines, number, answer);
+    lines.push(b'\n');
+}
+
+/// The line but for its end, so that more can stand behind it.
+#[inline]
+pub fn push_answer(lines: &mut Vec<u8>, number: u64, answer: Answer) {
     let (refusal, value) = numbers(answer);
     push_decimal(lines, number);
     lines.push(b' ');
     push_decimal(lines, u64::from(refusal));
     lines.push(b' ');
-    push_hex(lines, value);
-    lines.push(b'\n');
+    push_value(lines, value);
 }
 
 fn push_decimal(lines: &mut Vec<u8>, mut number: u64) {
@@ -151,8 +167,22 @@ fn push_decimal(lines: &mut Vec<u8>, mut number: u64) {
     lines.extend_from_slice(&digits[at..]);
 }
 
-fn push_hex(lines: &mut Vec<u8>, value: u16) {
+/// Four digits at once, for every line has them.
+fn push_value(lines: &mut Vec<u8>, value: u16) {
+    let [high, low] = value.to_be_bytes().map(hex_digits);
+    lines.extend_from_slice(&[high[0], high[1], low[0], low[1]]);
+}
+
+/// Two digits for each byte.
+pub fn push_hex(lines: &mut Vec<u8>, bytes: &[u8]) {
+    lines.reserve(2 * bytes.len());
+    for &byte in bytes {
+        lines.extend_from_slice(&hex_digits(byte));
+    }
+}
+
+/// Lower-case.
+fn hex_digits(byte: u8) -> [u8; 2] {
     const DIGITS: &[u8; 16] = b"0123456789abcdef";
-    let digit = |shift: u16| DIGITS[usize::from(value >> shift & 0xf)];
-    lines.extend_from_slice(&[digit(12), digit(8), digit(4), digit(0)]);
+    [byte >> 4, byte & 0xf].map(|digit| DIGITS[usize::from(digit)])
 }

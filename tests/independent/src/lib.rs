@@ -18,6 +18,7 @@ pub mod refusal;
 pub mod registers;
 pub mod send;
 pub mod told;
+pub mod watch;
 
 #[cfg(test)]
 mod tests;

@@ -1,12 +1,13 @@
 //! All that can be seen of a bench: what a record answers and changes, and at
 //! the end the registers, the pool, the output buffer and the memory.
 
-use std::fmt::Write;
+use std::io::Write;
 
-use crate::bench::{numbers, Answer, Bench, Record};
+use crate::bench::{push_hex, Answer, Bench, Record};
 use crate::chip::{Chip, Registers};
 use crate::fifo::Fifo;
 use crate::memory::{PacketNumber, PageNumber};
+use crate::watch::push_seen;
 
 /// A sum in which the place of each number counts.
 pub fn sum(numbers: impl IntoIterator<Item = u32>) -> u32 {
@@ -57,58 +58,51 @@ fn counted(list: Vec<u8>) -> impl Iterator<Item = u32> {
 /// line, and the sum of registers and pool after it; for a frame or a send that
 /// is done also the sum of the memory, and for a send the sum of the output
 /// buffer and the bytes that were put out.
-fn push_record(lines: &mut String, number: usize, kind: u8, answer: Answer, bench: &Bench) {
-    let (refusal, value) = numbers(answer);
+fn push_record(lines: &mut Vec<u8>, number: u64, kind: u8, answer: Answer, bench: &Bench) {
     let chip = &bench.chip;
-    let line = u8::from(chip.line_is_up());
     let state = sum(registers(&chip.registers).into_iter().chain(pool(chip)));
-    let _ = write!(lines, "{number} {refusal} {value:04x} {line} {state}");
+    push_seen(lines, number, answer, chip);
+    let _ = write!(lines, " {state}");
     if answer.is_ok() && (kind == 6 || kind == 7) {
         let _ = write!(lines, " {}", sum_bytes(chip.memory.bytes()));
     }
-    if answer.is_ok() && kind == 7 {
+    if let Some(bytes) = bench.put_out(kind, answer) {
         let _ = write!(lines, " {} ", sum_bytes(&bench.output));
-        push_hex(lines, &bench.output[..usize::from(value)]);
+        push_hex(lines, bytes);
     }
-    lines.push('\n');
+    lines.push(b'\n');
 }
 
 fn sum_bytes(bytes: &[u8]) -> u32 {
     sum(bytes.iter().copied().map(u32::from))
 }
 
-fn push_hex(lines: &mut String, bytes: &[u8]) {
-    for byte in bytes {
-        let _ = write!(lines, "{byte:02x}");
-    }
-}
-
-fn push_numbers(lines: &mut String, name: &str, numbers: &[u32]) {
-    lines.push_str(name);
+fn push_numbers(lines: &mut Vec<u8>, name: &str, numbers: &[u32]) {
+    let _ = write!(lines, "{name}");
     for number in numbers {
         let _ = write!(lines, " {number}");
     }
-    lines.push('\n');
+    lines.push(b'\n');
+}
+
+fn push_bytes(lines: &mut Vec<u8>, name: &str, bytes: &[u8]) {
+    let _ = write!(lines, "{name} ");
+    push_hex(lines, bytes);
+    lines.push(b'\n');
 }
 
 /// Everything about a stream from power-up: a line for each record, then the
 /// registers, the pool, the output buffer and the memory.
 pub fn tell(records: &[Record]) -> String {
     let mut bench = Bench::default();
-    let mut lines = String::new();
+    let mut lines = Vec::new();
     for (number, record) in (1..).zip(records) {
         let answer = bench.step(record);
         push_record(&mut lines, number, record[0], answer, &bench);
     }
     push_numbers(&mut lines, "registers", &registers(&bench.chip.registers));
     push_numbers(&mut lines, "pool", &pool(&bench.chip));
-    for (name, bytes) in [
-        ("output", &bench.output[..]),
-        ("memory", bench.chip.memory.bytes()),
-    ] {
-        let _ = write!(lines, "{name} ");
-        push_hex(&mut lines, bytes);
-        lines.push('\n');
-    }
-    lines
+    push_bytes(&mut lines, "output", &bench.output);
+    push_bytes(&mut lines, "memory", bench.chip.memory.bytes());
+    String::from_utf8(lines).expect("names and digits")
 }

@@ -1,23 +1,39 @@
 //! The program itself: over a pipe, one record at a time, and with a tail.
 
-use std::io::{BufRead, BufReader, Read, Write};
-use std::process::{Child, Command, Stdio};
+use std::io::{BufRead, BufReader, Write};
+use std::process::{Child, Command, Output, Stdio};
 
-fn start() -> Child {
+fn start(arguments: &[&str]) -> Child {
     Command::new(env!("CARGO_BIN_EXE_independent"))
+        .args(arguments)
         .stdin(Stdio::piped())
         .stdout(Stdio::piped())
+        .stderr(Stdio::piped())
         .spawn()
         .expect("the program starts")
 }
 
+/// Runs the program on an input to its end.
+fn run(arguments: &[&str], input: &[u8]) -> Output {
+    let mut child = start(arguments);
+    child.stdin.take().unwrap().write_all(input).unwrap();
+    child.wait_with_output().unwrap()
+}
+
+/// The lines of a run that ends well.
+fn lines(arguments: &[&str], input: &[u8]) -> String {
+    let output = run(arguments, input);
+    assert!(output.status.success());
+    assert_eq!(output.stderr, b"");
+    String::from_utf8(output.stdout).unwrap()
+}
+
 /// "Each complete record is answered before the next blocking read".
-#[test]
-fn answers_each_record_before_the_next() {
-    let mut child = start();
+fn answers_each_before_the_next(arguments: &[&str], kinds_and_lines: [(u8, &str); 3]) {
+    let mut child = start(arguments);
     let mut input = child.stdin.take().unwrap();
     let mut output = BufReader::new(child.stdout.take().unwrap());
-    for (kind, expected) in [(2, "1 0 3300\n"), (9, "2 17 0000\n"), (1, "3 0 0000\n")] {
+    for (kind, expected) in kinds_and_lines {
         input.write_all(&[kind, 0xe, 0]).unwrap();
         input.flush().unwrap();
         input.write_all(&[0; 5]).unwrap();
@@ -29,38 +45,90 @@ fn answers_each_record_before_the_next() {
     assert!(child.wait().unwrap().success());
 }
 
+#[test]
+fn answers_each_record_before_the_next() {
+    let bench = [(2, "1 0 3300\n"), (9, "2 17 0000\n"), (1, "3 0 0000\n")];
+    answers_each_before_the_next(&[], bench);
+    let watch = [
+        (2, "1 0 3300 0\n"),
+        (9, "2 17 0000 0\n"),
+        (1, "3 0 0000 0\n"),
+    ];
+    answers_each_before_the_next(&["--watch"], watch);
+}
+
 /// "record cut short": one line, whether 1 or 7 bytes are left.
 #[test]
 fn a_tail_is_one_line() {
     for tail in 1..8 {
-        let mut child = start();
-        let mut input = child.stdin.take().unwrap();
-        input.write_all(&[2, 8, 0, 0, 0, 0, 0, 0]).unwrap();
-        input.write_all(&[1; 7][..tail]).unwrap();
-        drop(input);
-        let mut output = String::new();
-        child
-            .stdout
-            .take()
-            .unwrap()
-            .read_to_string(&mut output)
-            .unwrap();
-        assert_eq!(output, "1 0 1818\n2 17 0000\n");
-        assert!(child.wait().unwrap().success());
+        let input = [&[2, 8, 0, 0, 0, 0, 0, 0], &[1; 7][..tail]].concat();
+        assert_eq!(lines(&[], &input), "1 0 1818\n2 17 0000\n");
+        assert_eq!(lines(&["--watch"], &input), "1 0 1818 0\n2 17 0000 0\n");
     }
+}
+
+/// "a line with 17 has its interrupt line as well": up, for TX EMPTY is set at
+/// power-up and in the mask. The tail would clear the mask if it were whole.
+#[test]
+fn a_tail_has_the_line_as_it_is_then() {
+    let records: [[u8; 8]; 3] = [
+        [3, 0xe, 2, 0, 0, 0, 0, 0],
+        [3, 0xd, 4, 0, 0, 0, 0, 0],
+        [8, 0xd, 0, 0, 0, 0, 0, 0],
+    ];
+    for tail in 1..8 {
+        let input = [records.as_flattened(), &[3, 0xd, 0, 0, 0, 0, 0][..tail]].concat();
+        let expected = "1 0 0000 0\n2 0 0000 1\n3 17 0000 1\n4 17 0000 1\n";
+        assert_eq!(lines(&["--watch"], &input), expected);
+        let bench = "1 0 0000\n2 0 0000\n3 17 0000\n4 17 0000\n";
+        assert_eq!(lines(&[], &input), bench);
+    }
+}
+
+/// A tail of kind 7 is no send, even where one would be done.
+#[test]
+fn a_send_and_a_tail_of_one() {
+    let records: [[u8; 8]; 7] = [
+        [4, 0x0, 0x01, 0, 0, 0, 0, 0],
+        [3, 0xe, 2, 0, 0, 0, 0, 0],
+        [3, 0x0, 0x20, 0, 0, 0, 0, 0],
+        [4, 0x6, 0x02, 0x40, 0, 0, 0, 0],
+        [4, 0x8, 12, 0, 0, 0, 0, 0],
+        [4, 0x8, 0xfe, 0x09, 0, 0, 0, 0],
+        [3, 0x0, 0xc0, 0, 0, 0, 0, 0],
+    ];
+    let ready = "1 0 0000 0\n2 0 0000 0\n3 0 0000 0\n4 0 0000 0\n5 0 0000 0\n\
+                 6 0 0000 0\n7 0 0000 0\n";
+    let ready_and = |input: &[u8]| [records.as_flattened(), input].concat();
+    assert_eq!(
+        lines(&["--watch"], &ready_and(&[7, 0, 0, 0, 0, 0, 0, 0])),
+        format!("{ready}8 0 0006 0 fe0900000000\n")
+    );
+    assert_eq!(
+        lines(&["--watch"], &ready_and(&[7, 0, 0, 0, 0, 0, 0])),
+        format!("{ready}8 17 0000 0\n")
+    );
 }
 
 #[test]
 fn no_record_is_no_line() {
-    let mut child = start();
-    drop(child.stdin.take());
-    let mut output = String::new();
-    child
-        .stdout
-        .take()
-        .unwrap()
-        .read_to_string(&mut output)
-        .unwrap();
-    assert_eq!(output, "");
-    assert!(child.wait().unwrap().success());
+    assert_eq!(lines(&[], b""), "");
+    assert_eq!(lines(&["--watch"], b""), "");
+}
+
+#[test]
+fn other_arguments_get_the_usage() {
+    let unexpected: [&[&str]; 5] = [
+        &[""],
+        &["watch"],
+        &["--watch=1"],
+        &["--watch", "--watch"],
+        &["records", "--watch"],
+    ];
+    for arguments in unexpected {
+        let output = run(arguments, b"");
+        assert_eq!(output.status.code(), Some(2), "{arguments:?}");
+        assert_eq!(output.stdout, b"");
+        assert_eq!(output.stderr, b"usage: independent [--watch] < records\n");
+    }
 }

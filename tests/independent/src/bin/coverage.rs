@@ -1,6 +1,7 @@
-//! `coverage [--cells | --missing CELLS] [FILE..]`: what the streams in the
-//! files reach, each from power-up, or the one on standard input. As tables; as
-//! a list of cells; or as the cells of a list that are not reached.
+//! `coverage [--cells | --counts | --missing CELLS] [FILE..]`: what the streams
+//! in the files reach, each from power-up, or the one on standard input. As
+//! tables; as a list of cells; as one with a count behind each; or as the cells
+//! of a list that are not reached.
 
 use std::collections::BTreeSet;
 use std::io::{self, Read};
@@ -47,6 +48,11 @@ fn run(arguments: &[String]) -> io::Result<ExitCode> {
     match arguments {
         [option, files @ ..] if option == "--cells" => {
             for line in cover(files)?.cells() {
+                println!("{line}");
+            }
+        }
+        [option, files @ ..] if option == "--counts" => {
+            for line in cover(files)?.counts() {
                 println!("{line}");
             }
         }

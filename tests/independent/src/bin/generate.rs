@@ -1,12 +1,10 @@
 //! `generate SEED COUNT [--tail] > file`: exactly COUNT records, the same for
-//! the same seed; with `--tail` an incomplete one after them.
+//! the same seed; with `--tail` one after them that lacks its last byte.
 
 use std::io::{self, Write};
 use std::process::ExitCode;
 
-use independent::bench::RECORD_SIZE;
 use independent::generator;
-use independent::random::Random;
 
 struct Order {
     seed: u64,
@@ -33,11 +31,7 @@ fn write(order: &Order) -> io::Result<()> {
     let mut output = io::stdout().lock();
     output.write_all(generator::records(order.seed, order.count).as_flattened())?;
     if order.tail {
-        let mut random = Random::new(!order.seed);
-        let bytes: Vec<u8> = (0..random.between(1, RECORD_SIZE - 1))
-            .map(|_| random.byte())
-            .collect();
-        output.write_all(&bytes)?;
+        output.write_all(&generator::tail(order.seed))?;
     }
     output.flush()
 }

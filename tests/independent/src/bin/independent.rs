@@ -1,20 +1,49 @@
-//! The bench: records on standard input, a line for each on standard output.
+//! `independent [--watch] < records`: the bench, a line for each record; with
+//! `--watch` the lines of the program "watch".
 
+use std::ffi::OsString;
 use std::io::{self, Read, Write};
+use std::process::ExitCode;
 
-use independent::bench::{push_line, Bench, Record, RECORD_SIZE};
+use independent::bench::{self, Answer, Bench, Record, RECORD_SIZE};
 use independent::refusal::Refusal;
+use independent::watch;
 
 /// Records taken in one read when the input has that many.
 const BATCH: usize = 8_192;
 
-fn main() -> io::Result<()> {
-    run(io::stdin().lock(), io::stdout().lock())
+fn main() -> ExitCode {
+    let arguments: Vec<OsString> = std::env::args_os().skip(1).collect();
+    let (input, output) = (io::stdin().lock(), io::stdout().lock());
+    let ended = match &arguments[..] {
+        [] => run(input, output, push_bench_line),
+        [option] if option == "--watch" => run(input, output, watch::push_line),
+        _ => {
+            eprintln!("usage: independent [--watch] < records");
+            return ExitCode::from(2);
+        }
+    };
+    match ended {
+        Ok(()) => ExitCode::SUCCESS,
+        Err(error) => {
+            eprintln!("independent: {error}");
+            ExitCode::FAILURE
+        }
+    }
+}
+
+fn push_bench_line(lines: &mut Vec<u8>, number: u64, _kind: u8, answer: Answer, _: &Bench) {
+    bench::push_line(lines, number, answer);
 }
 
 /// Answers every whole record at hand, then reads again: so each is answered
 /// before the program blocks, and a file is still taken in large pieces.
-fn run(mut input: impl Read, mut output: impl Write) -> io::Result<()> {
+/// `push` appends a record's line: number, kind, answer, the bench after it.
+fn run(
+    mut input: impl Read,
+    mut output: impl Write,
+    push: impl Fn(&mut Vec<u8>, u64, u8, Answer, &Bench),
+) -> io::Result<()> {
     let mut bench = Bench::default();
     let mut records: u64 = 0;
     let mut buffer = vec![0; BATCH * RECORD_SIZE];
@@ -31,7 +60,8 @@ fn run(mut input: impl Read, mut output: impl Write) -> io::Result<()> {
         for record in buffer[..whole].chunks_exact(RECORD_SIZE) {
             let record: &Record = record.try_into().expect("chunks of a record's size");
             records += 1;
-            push_line(&mut lines, records, bench.step(record));
+            let answer = bench.step(record);
+            push(&mut lines, records, record[0], answer, &bench);
         }
         output.write_all(&lines)?;
         output.flush()?;
@@ -42,7 +72,8 @@ fn run(mut input: impl Read, mut output: impl Write) -> io::Result<()> {
 
     // "record cut short": a tail of 1 to 7 bytes is one line.
     if held > 0 {
-        push_line(&mut lines, records + 1, Err(Refusal::BadRecord));
+        let answer = Err(Refusal::BadRecord);
+        push(&mut lines, records + 1, buffer[0], answer, &bench);
         output.write_all(&lines)?;
     }
     output.flush()

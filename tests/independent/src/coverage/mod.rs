@@ -72,6 +72,11 @@ impl Coverage {
     pub fn cells(&self) -> Vec<String> {
         self.tables.cells()
     }
+
+    /// The cells reached with their counts, as lines.
+    pub fn counts(&self) -> Vec<String> {
+        self.tables.counts()
+    }
 }
 
 impl fmt::Display for Coverage {

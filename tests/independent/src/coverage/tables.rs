@@ -112,6 +112,20 @@ impl Tables {
         });
         rows.collect()
     }
+
+    /// A line for each cell reached, with its count behind it.
+    pub fn counts(&self) -> Vec<String> {
+        let mut lines = Vec::new();
+        for (part, table) in &self.0 {
+            for (row, counts) in &table.0 {
+                for (column, count) in counts {
+                    let names = [part.title(), row, column.trim()].join(BAR);
+                    lines.push(format!("{names}{BAR}{count}"));
+                }
+            }
+        }
+        lines
+    }
 }
 
 impl fmt::Display for Tables {

@@ -7,7 +7,7 @@ mod receive;
 mod setup;
 mod transmit;
 
-use crate::bench::{Bench, Record};
+use crate::bench::{Bench, Record, RECORD_SIZE};
 use crate::chip::Chip;
 use crate::random::Random;
 
@@ -19,6 +19,16 @@ pub fn records(seed: u64, count: usize) -> Vec<Record> {
         generator.play_scene();
     }
     generator.records
+}
+
+/// A record without its last byte. Its kind is one that is answered, so that a
+/// program which serves it prints another line than 17's.
+pub fn tail(seed: u64) -> [u8; RECORD_SIZE - 1] {
+    let mut random = Random::new(!seed);
+    let mut bytes = [0; RECORD_SIZE - 1];
+    bytes.fill_with(|| random.byte());
+    bytes[0] = random.between(1, 7) as u8;
+    bytes
 }
 
 /// A scene and its share; costs differ, so shares are not shares of records.
@@ -87,6 +97,9 @@ impl Generator {
         scene(self);
         if self.random.one_in(2) {
             self.look_around();
+        }
+        if self.random.one_in(2) {
+            self.set_mask(); // another bit of the status decides the line
         }
     }
 

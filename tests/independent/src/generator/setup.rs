@@ -5,6 +5,13 @@ use super::Generator;
 use crate::address::MacAddress;
 use crate::chip::{control, rcr, tcr};
 
+/// Mostly one bit, which then decides the line alone: under several the line is
+/// nearly always up.
+const MASKS: [u8; 20] = [
+    0x01, 0x01, 0x01, 0x02, 0x02, 0x02, 0x04, 0x04, 0x08, 0x10, 0x10, 0x20, 0x20, 0x20, 0x03, 0x11,
+    0x30, 0xc0, 0xff, 0x00,
+];
+
 impl Generator {
     /// All registers, as a driver does after a reset.
     pub fn configure_all(&mut self) {
@@ -162,8 +169,8 @@ impl Generator {
         }
     }
 
-    fn set_mask(&mut self) {
-        let mask = self.random.byte();
+    pub fn set_mask(&mut self) {
+        let mask = self.random.pick(&MASKS);
         self.select(INTERRUPT.0);
         self.write_byte(INTERRUPT.1 + 1, mask);
     }
