@@ -1,16 +1,18 @@
 -- The worked example of document 01: its ten records from power-up give its ten lines.
 use mathlib.Core.Path.{_≡_, refl}
+use mathlib.Core.Bool.{Bool, true, false}
 use mathlib.Core.List.{List, [], _∷_, _++_}
 use Prim.Native.Nat.{ℕ, _-_}
 use lib.ListN.{replicate, length}
-use Rattle.rules.specs.Bits.{bit, flag, lowByte, highByte, wordOf}
+use Rattle.rules.specs.Bits.{bit, flag, share, lowByte, highByte, wordOf}
 use Rattle.rules.specs.Lists.{member, some?, owned, unless, freeBelow, firstEmpty}
 use Rattle.rules.specs.Tests.{above, ascends, allBelow, apart, noneOwned, pagesGood, queueGood, queuesGood, numbersGood, formed, fit}
 use Rattle.rules.specs.Mmu.{decode, perform}
-use Rattle.rules.specs.Interrupts.{failed, eph, status}
-use Rattle.rules.specs.Registers.{registerAt, misplaced, lanesAt, taken, merged, headOf, lowOnly, readRegister, writeRegister, access}
+use Rattle.rules.specs.Interrupts.{failed, eph, status, lineUp}
+use Rattle.rules.specs.Registers.{registerAt, misplaced, lanesAt, taken, merged, headOf, lowOnly, readRegister, writeInterrupt, writeRegister, access}
 use Rattle.rules.specs.Step.{serve, stepOf}
 use Rattle.rules.specs.Bench.{eventOf, answer, decimalIn, hexDigit, hex4, line, printed, bench}
+use Rattle.rules.specs.Watch.{isSend, hexBytes, putOut, watchLine, watch}
 
 -- a record of 8 bytes, "trailing zeros not shown"
 abbrev record8 : List ℕ → List ℕ
@@ -36,3 +38,32 @@ worked = refl
 pub line-spelt : says 10 5 0x8c0f ≡ 0x31 ∷ 0x30 ∷ 0x20 ∷ 0x35 ∷ 0x20 ∷ 0x38 ∷ 0x63 ∷ 0x30 ∷ 0x66 ∷ 0x0a ∷ []
 unfolding decimalIn hexDigit hex4 line
 line-spelt = refl
+
+-- The same by `watch`: the mask is 0, so the line is down.
+abbrev shows : ℕ → ℕ → ℕ → Bool → List ℕ
+shows k number value up = watchLine k (record { number = number; value = value }) up false []
+
+pub watched-example :
+    watch input
+    ≡ shows 1 0 0x3300 false ++ shows 2 0 0x1818 false ++ shows 3 0 0x0000 false ++ shows 4 0 0x0000 false ++ shows 5 0 0x0000 false
+    ++ shows 6 0 0x000c false ++ shows 7 0 0x0000 false ++ shows 8 5 0x0000 false ++ shows 9 1 0x0000 false ++ shows 10 0 0x8080 false
+unfolding bit flag share lowByte highByte wordOf member some? owned unless freeBelow firstEmpty above ascends allBelow apart noneOwned pagesGood queueGood queuesGood numbersGood formed fit decode perform failed eph status lineUp registerAt misplaced lanesAt taken merged headOf lowOnly readRegister writeRegister access serve stepOf eventOf answer decimalIn hexDigit hex4 line printed isSend hexBytes putOut watchLine
+watched-example = refl
+
+-- TX EMPTY is set at power-up: a mask of 04h raises the line, a record of unknown kind leaves it up, and a tail of five bytes where it is.
+pub line-follows :
+    watch (record8 (0x03 ∷ 0x0e ∷ 0x02 ∷ []) ++ record8 (0x03 ∷ 0x0d ∷ 0x04 ∷ []) ++ record8 (0x08 ∷ []) ++ (0x03 ∷ 0x0d ∷ 0x00 ∷ 0x00 ∷ 0x00 ∷ []))
+    ≡ shows 1 0 0x0000 false ++ shows 2 0 0x0000 true ++ shows 3 17 0x0000 true ++ shows 4 17 0x0000 true
+unfolding bit flag share lowByte highByte wordOf member some? owned unless freeBelow firstEmpty above ascends allBelow apart noneOwned pagesGood queueGood queuesGood numbersGood formed fit decode perform failed eph status lineUp registerAt misplaced lanesAt taken merged headOf lowOnly readRegister writeRegister access serve stepOf eventOf writeInterrupt answer decimalIn hexDigit hex4 line printed isSend hexBytes putOut watchLine
+line-follows = refl
+
+-- the characters of a line: "7 0 0003 1 ff0a5c" and a newline, of a send that is done; "7 13 0000 0" of one that is refused
+pub watch-spelt : watchLine 7 (record { number = 0; value = 3 }) true true (0xff ∷ 0x0a ∷ 0x5c ∷ 0x77 ∷ [])
+    ≡ 0x37 ∷ 0x20 ∷ 0x30 ∷ 0x20 ∷ 0x30 ∷ 0x30 ∷ 0x30 ∷ 0x33 ∷ 0x20 ∷ 0x31 ∷ 0x20 ∷ 0x66 ∷ 0x66 ∷ 0x30 ∷ 0x61 ∷ 0x35 ∷ 0x63 ∷ 0x0a ∷ []
+unfolding flag decimalIn hexDigit hex4 hexBytes putOut watchLine
+watch-spelt = refl
+
+pub refusal-spelt : watchLine 7 (record { number = 13; value = 0 }) false true (0xff ∷ 0x0a ∷ 0x5c ∷ 0x77 ∷ [])
+    ≡ 0x37 ∷ 0x20 ∷ 0x31 ∷ 0x33 ∷ 0x20 ∷ 0x30 ∷ 0x30 ∷ 0x30 ∷ 0x30 ∷ 0x20 ∷ 0x30 ∷ 0x0a ∷ []
+unfolding flag decimalIn hexDigit hex4 hexBytes putOut watchLine
+refusal-spelt = refl
