@@ -1,5 +1,7 @@
 /* Drives the bench over a pipe: reset, allocate, load, send, receive, remove and release.
  * usage: driver BENCH      build: cc -o driver driver.c */
+#include <errno.h>
+#include <signal.h>
 #include <stdio.h>
 #include <stdlib.h>
 #include <string.h>
@@ -14,18 +16,30 @@ struct reply {
 	unsigned answer, value;
 };
 
-/* a record of 8 bytes goes in, a line comes out */
-static struct reply record(unsigned kind, unsigned b1, unsigned b2, unsigned b3)
+static void fail(const char *what)
 {
-	unsigned char bytes[8] = { kind, b1, b2, b3 };
+	fprintf(stderr, "driver: %s\n", what);
+	exit(1);
+}
+
+/* a record of 8 bytes goes in, a line comes out */
+static struct reply answered(const unsigned char bytes[8])
+{
 	unsigned long long number;
 	struct reply r;
 
-	fwrite(bytes, 1, sizeof bytes, to_chip);
+	fwrite(bytes, 1, 8, to_chip);
 	fflush(to_chip);
 	if (fscanf(from_chip, "%llu %u %x", &number, &r.answer, &r.value) != 3)
-		exit(1);
+		fail("no line for a record: is the program given the bench?");
 	return r;
+}
+
+static struct reply record(unsigned kind, unsigned b1, unsigned b2, unsigned b3)
+{
+	unsigned char bytes[8] = { kind, b1, b2, b3 };
+
+	return answered(bytes);
 }
 
 static unsigned done(unsigned kind, unsigned b1, unsigned b2, unsigned b3)
@@ -70,12 +84,10 @@ static void outw(unsigned b, unsigned offset, unsigned value)
 	done(4, offset, value & 0xff, value >> 8);
 }
 
-/* a frame with its FCS arrives; document 01's value, 0 where it is stored */
+/* a frame with its FCS arrives; what became of it, 0 where it is stored */
 static unsigned frame(const unsigned char *wire, size_t length)
 {
 	unsigned char bytes[8];
-	unsigned long long number;
-	unsigned answer, value;
 	size_t at, part;
 
 	for (at = 0; at < length; at += part) {
@@ -84,10 +96,8 @@ static unsigned frame(const unsigned char *wire, size_t length)
 		bytes[0] = 5;
 		bytes[1] = part;
 		memcpy(bytes + 2, wire + at, part);
-		fwrite(bytes, 1, sizeof bytes, to_chip);
-		fflush(to_chip);
-		if (fscanf(from_chip, "%llu %u %x", &number, &answer, &value) != 3 || answer != 0)
-			exit(1);
+		if (answered(bytes).answer != 0)
+			fail("wire bytes are refused");
 	}
 	return done(6, 0, 0, 0);
 }
@@ -96,14 +106,20 @@ static void connect_bench(const char *path)
 {
 	int in[2], out[2];
 
-	if (pipe(in) != 0 || pipe(out) != 0)
+	if (access(path, X_OK) != 0) {
+		fprintf(stderr, "driver: cannot run %s: %s\n", path, strerror(errno));
 		exit(1);
+	}
+	if (pipe(in) != 0 || pipe(out) != 0)
+		fail("no pipe");
+	signal(SIGPIPE, SIG_IGN); /* a bench that ends is told by the line that is missing */
 	program = fork();
 	if (program == 0) {
 		dup2(in[0], 0);
 		dup2(out[1], 1);
 		close(in[0]), close(in[1]), close(out[0]), close(out[1]);
 		execl(path, path, (char *)0);
+		fprintf(stderr, "driver: cannot run %s: %s\n", path, strerror(errno));
 		_exit(127);
 	}
 	close(in[0]);
@@ -160,8 +176,10 @@ int main(int argc, char **argv)
 {
 	unsigned at;
 
-	if (argc != 2)
+	if (argc != 2) {
+		fprintf(stderr, "usage: driver BENCH   (what tools/build bench prints)\n");
 		return 2;
+	}
 	connect_bench(argv[1]);
 	outw(0, 0x4, 0x8000); /* soft reset, and out of it */
 	outw(0, 0x4, 0x0000);

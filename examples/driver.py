@@ -1,7 +1,7 @@
 #!/usr/bin/env python3
 """Drives the bench over a pipe: reset, allocate, load, send, receive, remove and release.
 
-usage: driver.py BENCH        (the path of the bench program)
+usage: driver.py BENCH        (what tools/build bench prints)
 """
 import subprocess
 import sys
@@ -11,14 +11,20 @@ class Bench:
     """The chip behind a pipe: a record of 8 bytes goes in, a line comes out."""
 
     def __init__(self, path):
-        self.program = subprocess.Popen([path], stdin=subprocess.PIPE, stdout=subprocess.PIPE)
+        try:
+            self.program = subprocess.Popen([path], stdin=subprocess.PIPE, stdout=subprocess.PIPE)
+        except OSError as error:
+            raise SystemExit(f"driver.py: cannot run {path}: {error.strerror}")
         self.bank = 0
 
     def record(self, *values):
-        self.program.stdin.write(bytes(values).ljust(8, b"\0"))
-        self.program.stdin.flush()
-        _number, answer, value = self.program.stdout.readline().split()
-        return int(answer), int(value, 16)
+        try:
+            self.program.stdin.write(bytes(values).ljust(8, b"\0"))
+            self.program.stdin.flush()
+            _number, answer, value = self.program.stdout.readline().split()
+            return int(answer), int(value, 16)
+        except (BrokenPipeError, ValueError):
+            raise SystemExit("driver.py: no line for a record: is the program given the bench?")
 
     def done(self, *values):
         """A record that must be answered with 0; gives its value."""
@@ -49,7 +55,7 @@ class Bench:
         self.done(4, offset, value & 0xFF, value >> 8)
 
     def frame(self, wire, bad_crc=False, alignment=False):
-        """A frame with its FCS arrives; gives document 01's value, 0 where it is stored."""
+        """A frame with its FCS arrives; gives what became of it, 0 where it is stored."""
         for at in range(0, len(wire), 6):
             part = wire[at : at + 6]
             self.done(5, len(part), *part)

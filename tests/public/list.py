@@ -6,7 +6,7 @@
     list.py --write FILE             writes them there
 
 promises.txt, beside this file, has for each promise that is not an equation the theorem that two results which meet it are equal, or a reason in
-words. It fails where a function is used by no other crate or has no contract (unless promises.txt has a line for it), where a type or a constant is
+words, and one for each function whose result is left open. It fails where a function is used by no other crate or has no contract (unless promises.txt has a line for it), where a type or a constant is
 used by none, where a promise has no line, where a theorem is not there, where a result or what a `&mut` argument leaves is in no promise, and where a
 promise has a premise of which `requires` names no instance. That a theorem speaks of its promise is left to reading.
 """
@@ -234,7 +234,7 @@ def facts_of(text, result, premises=()):
 
 
 def read_promises():
-    """By promise the theorem or the reason; by function the reason why it has no promise, and why it has no user."""
+    """By promise the theorem or the reason; by function the reason why its result is open, and why it has no user."""
     fixed, plain, unused = {}, {}, {}
     for line in open(PROMISES, encoding="utf-8"):
         line = line.rstrip("\n")
@@ -295,10 +295,11 @@ def row(f, users, fields, fixed, plain, unused, seen):
         else:
             fail(f"{f.name}: exported, and used by no other crate")
     seen.add(f.name)
+    if f.name in plain:
+        said = "; ".join(dict.fromkeys("a bound" if x.kind == "bound" else x.shown() for _, x in facts))
+        return f"| `{f.name}` | {who} | {said or 'none'} | open: {plain[f.name]} |"
     if not f.ensures:
-        if f.name not in plain:
-            fail(f"{f.name}: no contract says what it does")
-        return f"| `{f.name}` | {who} | none | {plain.get(f.name, '')} |"
+        fail(f"{f.name}: no contract says what it does")
     check_covers(f, facts, fields)
     check_premises(f, facts)
     shown, by = [], []
