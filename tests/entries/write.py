@@ -1,24 +1,46 @@
 #!/usr/bin/env python3
-"""Writes crates/entry_runs/stdin and stdout: records in order and damaged ones, each with an access and the answer that document 01 gives it.
+"""Writes crates/entry_runs/stdin and stdout: records in order and damaged ones, each with an access, a frame or a send, the answer that document 01 gives it, and
+the record after it. The memory and the wire are those that the cases before left: a send puts out to the wire, and a frame comes from it.
 
 usage: tests/entries/write.py      (in the repository's top folder)
 """
-from records import Record, request
+from records import CONTROL, ECR, EPHSR, LATCHES, POINTER, RCR, RESERVED, STATION, Record, frame, line, request, send
 
-MIR, MIR_HIGH, HEADS, COMMAND = 0x08, 0x09, 0x04, 0x00
+MIR, MIR_HIGH, HEADS, COMMAND, DATA = 0x08, 0x09, 0x04, 0x00, 0x08
+RXEN, ALL, STRIP, RX_ABORT = 0x0100, 0x0002, 0x0200, 0x0001  # of RCR
+KEEP_BAD, AUTO_RELEASE = 0x4000, 0x0800  # of control
+TXENA, PAD, STOP_ON_CARRIER = 0x0001, 0x0080, 0x0400  # of TCR
+SENT, BROADCAST = 0x0001, 0x0040  # of EPHSR
+TX_EMPTY, OVERRUN = 4, 16  # of the latches
 cases, lines = [], []
 
 
-def says(name, line, record, asked):
-    """A record and an access, and the answer's number and value. The name is for the reader."""
+def says(name, answer, record, asked, after=None):
+    """A record and what happens to it, the answer's number and value, and the record after it: the same if none is given. The name is for the reader."""
     cases.append(record.case(asked))
-    lines.append(line + "\n")
+    lines.append(line(*answer, after or record))
+
+
+def done(name, value, record, asked, after=None):
+    says(name, (0, value), record, asked, after)
+
+
+def refused(name, number, record, asked):
+    """Value 0, and nothing changes."""
+    says(name, (number, 0), record, asked)
+
+
+def damaged(name, record, asked=request(2, MIR)):
+    """A record with one thing wrong: 16 comes before all else."""
+    refused(name, 16, record, asked)
+
+
+SIX = [(0, range(0, 6)), (1, range(6, 12)), (2, range(12, 18))]
 
 
 def three(**registers):
     """Packets 0 and 1 in RX and packet 2 in TX, of six pages each: six are free, and MIR is 24 + 256 * 6."""
-    pages = [(0, range(0, 6)), (1, range(6, 12)), (2, range(12, 18))]
-    return Record(pages, rx=[0, 1], tx=[2], **registers)
+    return Record(SIX, rx=[0, 1], tx=[2], **registers)
 
 
 def high(**registers):
@@ -26,30 +48,35 @@ def high(**registers):
     return Record([(16, [0]), (17, [1]), (18, [2, 3])], rx=[16], tx=[17], **registers)
 
 
+def full(**registers):
+    """24 packets of one page, all in TX."""
+    return Record([(k, [k]) for k in range(24)], tx=range(24), **registers)
+
+
 def command(value):
     return request(3, COMMAND, value)
 
 
-def damaged(name, record, asked=request(2, MIR)):
-    """A record with one thing wrong: 16 comes before all else."""
-    says(name, "16 0", record, asked)
-
-
 def in_order():
-    says("power-up", "0 6168", Record(), request(2, MIR))
-    says("MIR, six free", "0 1560", three(), request(2, MIR))
-    says("six free, the byte", "0 6", three(), request(1, MIR_HIGH))
-    says("a word at an odd offset", "1 0", three(), request(2, MIR_HIGH))
-    says("the heads: completion empty, packet 0 heads RX", "0 128", three(bank=2), request(2, HEADS))
-    says("release one in RX", "6 0", three(bank=2, packet=1), command(0xA0))
-    says("enqueue one in RX", "6 0", three(bank=2, packet=1), command(0xC0))
-    says("release one in TX", "6 0", three(bank=2, packet=2), command(0xA0))
-    says("release one that is not allocated", "5 0", three(bank=2, packet=5), command(0xA0))
-    says("remove and release the head of RX", "0 0", three(bank=2, packet=1), command(0x80))
-    says("release one in RX, higher word", "6 0", high(bank=2, packet=16), command(0xA0))
-    says("release one in TX, higher word", "6 0", high(bank=2, packet=17), command(0xA0))
-    says("release one in neither", "0 0", high(bank=2, packet=18), command(0xA0))
-    says("completion may name a freed packet", "0 1560", three().word(9, 1).slot(48, 20), request(2, MIR))
+    done("power-up", 6168, Record(), request(2, MIR))
+    done("MIR, six free", 1560, three(), request(2, MIR))
+    done("six free, the byte", 6, three(), request(1, MIR_HIGH))
+    refused("a word at an odd offset", 1, three(), request(2, MIR_HIGH))
+    done("the heads: completion empty, packet 0 heads RX", 128, three(bank=2), request(2, HEADS))
+    done("a register written", 0, three(), request(4, 0x00, 0x0081), three(tcr=0x0081))
+    refused("release one in RX", 6, three(bank=2, packet=1), command(0xA0))
+    refused("enqueue one in RX", 6, three(bank=2, packet=1), command(0xC0))
+    refused("release one in TX", 6, three(bank=2, packet=2), command(0xA0))
+    refused("release one that is not allocated", 5, three(bank=2, packet=5), command(0xA0))
+    after = Record(SIX[1:], rx=[1], tx=[2], bank=2, packet=1)
+    done("remove and release the head of RX", 0, three(bank=2, packet=1), command(0x80), after)
+    refused("release one in RX, higher word", 6, high(bank=2, packet=16), command(0xA0))
+    refused("release one in TX, higher word", 6, high(bank=2, packet=17), command(0xA0))
+    after = Record([(16, [0]), (17, [1])], rx=[16], tx=[17], bank=2, packet=18)
+    done("release one in neither", 0, high(bank=2, packet=18), command(0xA0), after)
+    done("completion may name a freed packet", 1560, three().word(9, 1).slot(48, 20), request(2, MIR))
+    for kind in (0, 5, 8, 255):
+        refused("no record of an entry", 17, three(), request(kind, MIR))
 
 
 def wrong_figures():
@@ -92,10 +119,117 @@ def wrong_before():
     damaged("a word that holds nothing", three().word(15, 1))
 
 
+def stored(name, record, asked, after, *words):
+    """A frame that is stored, then words of its packet, which is the last of RX: each an address and what is read there."""
+    done(name, 0, record, asked, after())
+    packet = after().slots[after().words[6] - 1]
+    for address, value in words:
+        reading = after().word(7, 0x3302).word(17, 0x8000 + packet).word(POINTER, 0x2000 + address)
+        done(f"  its word {address}", value, reading, request(2, DATA))
+
+
+def frames_stored():
+    """The wire has zeros only: the frame is to the station address, which is zeros too."""
+    stored("64 bytes", Record().word(RCR, RXEN), frame(64), lambda: Record([(0, [0])], rx=[0]).word(RCR, RXEN), (0, 0), (2, 70), (68, 0x4000))
+    stored("65 bytes", Record().word(RCR, RXEN), frame(65), lambda: Record([(0, [0])], rx=[0]).word(RCR, RXEN), (0, 0x1000), (2, 70), (68, 0x6000))
+    stored("1,518 bytes, in the last six pages", three().word(RCR, RXEN), frame(1518),
+           lambda: Record(SIX + [(3, range(18, 24))], rx=[0, 1, 3], tx=[2]).word(RCR, RXEN), (0, 0), (2, 1524), (1522, 0x4000))
+    stored("1,532 bytes, in seven pages", Record().word(RCR, RXEN), frame(1532), lambda: Record([(0, range(7))], rx=[0]).word(RCR, RXEN), (0, 0x0800), (2, 1538))
+    stored("63 bytes with a bad CRC and alignment, kept", Record().word(RCR, RXEN).word(CONTROL, KEEP_BAD), frame(63, 3),
+           lambda: Record([(0, [0])], rx=[0]).word(RCR, RXEN).word(CONTROL, KEEP_BAD), (0, 0xB400), (2, 68))
+    stored("64 bytes less the FCS", Record().word(RCR, RXEN + STRIP), frame(64), lambda: Record([(0, [0])], rx=[0]).word(RCR, RXEN + STRIP), (0, 0), (2, 66))
+    stored("to another station, all accepted", Record().word(RCR, RXEN + ALL).word(STATION, 2), frame(64),
+           lambda: Record([(0, [0])], rx=[0]).word(RCR, RXEN + ALL).word(STATION, 2), (2, 70))
+    stored("as many pages left as are reserved", three().word(RCR, RXEN).word(RESERVED, 0x3305), frame(64),
+           lambda: Record(SIX + [(3, [18])], rx=[0, 1, 3], tx=[2]).word(RCR, RXEN).word(RESERVED, 0x3305), (2, 70))
+
+
+def frames_not_stored():
+    refused("17 bytes", 11, three(), frame(17))
+    done("RXEN clear", 1, three(), frame(18))
+    done("to another station", 2, three().word(RCR, RXEN).word(STATION, 2), frame(1533))
+    done("1,533 bytes", 3, three().word(RCR, RXEN), frame(1533), three().word(RCR, RXEN + RX_ABORT))
+    done("all of the wire", 3, three().word(RCR, RXEN), frame(65535), three().word(RCR, RXEN + RX_ABORT))
+    done("a bad CRC", 4, three().word(RCR, RXEN), frame(64, 1))
+    done("alignment", 4, three().word(RCR, RXEN), frame(64, 2))
+    done("63 bytes", 4, three().word(RCR, RXEN), frame(63))
+    done("no page free", 5, full().word(RCR, RXEN), frame(64), full().word(RCR, RXEN + RX_ABORT).word(LATCHES, TX_EMPTY + OVERRUN))
+    done("seven pages needed, six free", 5, three().word(RCR, RXEN), frame(1532), three().word(RCR, RXEN + RX_ABORT).word(LATCHES, TX_EMPTY + OVERRUN))
+    reserved = three().word(RCR, RXEN).word(RESERVED, 0x3306)
+    after = three().word(RCR, RXEN + RX_ABORT).word(RESERVED, 0x3306).word(LATCHES, TX_EMPTY + OVERRUN)
+    done("fewer pages left than are reserved", 5, reserved, frame(64), after)
+    damaged("free count one less", three().word(4, 24 + 256 * 5), frame(17))
+    damaged("RX bit of packet 3 set", three().word(RCR, RXEN).word(28, 1 + 2 + 8), frame(64))
+    damaged("page 6 in two packets", three().word(RCR, RXEN).set(0, 0b1111111), frame(64))
+    damaged("a byte behind the end of completion", three().word(RCR, RXEN).slot(71, 1), frame(1518))
+
+
+def written(address, value):
+    """A word of packet 2, whose pages are 12 to 17, with and without AUTO INCR by turns."""
+    pointer = address + 0x4000 * (address // 2 % 2)
+    after = three(bank=2, packet=2).word(POINTER, pointer + 2 if pointer >= 0x4000 else pointer)
+    done(f"word {address} of packet 2", 0, three(bank=2, packet=2).word(POINTER, pointer), request(4, DATA, value), after)
+
+
+def sending(tcr=TXENA):
+    """Packet 2 is to be sent."""
+    return three(tcr=tcr)
+
+
+def sent(completion=(2,), tcr=TXENA, pages=SIX):
+    """Packets 0 and 1 in RX, after packet 2 has been sent."""
+    return Record(pages, rx=[0, 1], completion=completion, tcr=tcr)
+
+
+def sends_refused():
+    """The wire's first six bytes are still zeros, and so is packet 2's byte count."""
+    refused("2,047 bytes for the output", 15, sending(), send(0, 0, 0, 1))
+    refused("the same, before 11 and 12", 15, three(), send(6, 0, 0, 255))
+    for asked in (send(6), send(0, 16), send(1, 15), send(0, 0, 3)):
+        refused("outside the limits", 11, three(), asked)
+    refused("TXENA clear", 12, three(), send())
+    refused("TX empty", 12, Record(tcr=TXENA), send())
+    for count in (0, 10, 67, 1538):
+        written(2, count)
+        refused(f"byte count {count}", 13, sending(), send())
+    written(2, 66)
+    refused("completion full", 14, Record(SIX, rx=[0, 1], tx=[2], completion=24 * [20], tcr=TXENA), send())
+    damaged("free count one less", sending().word(4, 24 + 256 * 5), send(6, 0, 0, 1))
+    damaged("TX bit of packet 2 clear", sending().word(30, 0), send())
+    damaged("page 6 in two packets", sending().set(0, 0b1111111), send())
+    damaged("a byte behind the end of completion", sending().slot(71, 1), send())
+
+
+def sends_done():
+    """Packet 2 has 60 bytes, to all stations."""
+    for address in (4, 6, 8):
+        written(address, 0xFFFF)
+    done("good, and TX is empty now", 60, sending().word(LATCHES, 0), send(), sent().word(EPHSR, SENT + BROADCAST))
+    stored("what was put out comes in", Record().word(RCR, RXEN).word(STATION, 2), frame(64),
+           lambda: Record([(0, [0])], rx=[0]).word(RCR, RXEN).word(STATION, 2), (0, 0x4000), (2, 70), (8, 0xFFFF), (10, 0))
+    done("good after one collision", 60, sending(), send(0, 1), sent().word(EPHSR, SENT + BROADCAST).word(ECR, 0x0001))
+    done("deferred", 60, sending(), send(0, 0, 1), sent().word(EPHSR, SENT + BROADCAST).word(ECR, 0x0100))
+    done("lost carrier, which is good", 60, sending(), send(3), sent().word(EPHSR, SENT + BROADCAST))
+    done("lost carrier", 60, sending(TXENA + STOP_ON_CARRIER), send(3), sent(tcr=STOP_ON_CARRIER).word(EPHSR, 0x0400 + BROADCAST))
+    done("sixteen collisions", 60, sending(), send(1, 16), sent(tcr=0).word(EPHSR, 0x0010 + 0x0004 + BROADCAST).word(ECR, 0x0010))
+    done("a nibble comes to 15", 60, sending().word(ECR, 0x00E0), send(0, 2), sent().word(EPHSR, 0x1000 + SENT + BROADCAST).word(ECR, 0x00F0))
+    released = sent(completion=(), pages=SIX[:2])
+    done("released", 60, sending().word(CONTROL, AUTO_RELEASE), send(), released.word(CONTROL, AUTO_RELEASE).word(EPHSR, SENT + BROADCAST))
+    written(2, 12)
+    done("six bytes", 6, sending(), send(), sent().word(EPHSR, SENT + BROADCAST))
+    done("six bytes, padded", 60, sending(TXENA + PAD), send(), sent(tcr=TXENA + PAD).word(EPHSR, SENT + BROADCAST))
+    done("the first of 24, its page being that of the frame", 64, full(tcr=TXENA), send(),
+         Record([(k, [k]) for k in range(24)], tx=range(1, 24), completion=[0], tcr=TXENA).word(EPHSR, SENT + BROADCAST))
+
+
 def main():
     in_order()
     wrong_figures()
     wrong_before()
+    frames_stored()
+    frames_not_stored()
+    sends_refused()
+    sends_done()
     # at the end a case that is cut short
     open("crates/entry_runs/stdin", "wb").write(b"".join(cases) + three().case(request(2, MIR))[:-1])
     open("crates/entry_runs/stdout", "w").write("".join(lines))

@@ -5,10 +5,10 @@ use Rattle.entry_runs.proofs.answer_all.Statement.{statement}
 use Rattle.entry_runs.proofs.answer_all.Tie as tie
 
 abbrev Inv-loop : tie.InvT-loop
-Inv-loop input memory₀ rest₀ memory rest = length memory ≡ length memory₀
+Inv-loop input memory₀ wire₀ rest₀ memory wire rest = (length memory ≡ length memory₀) × (length wire ≡ length wire₀)
 
 abbrev μ-loop : tie.MeasureT-loop
-μ-loop input memory₀ rest₀ memory rest = length rest
+μ-loop input memory₀ wire₀ rest₀ memory wire rest = length rest
 
 pub answer-all-spec : {M : Type 1} → statement M
 answer-all-spec =
@@ -22,6 +22,7 @@ answer-all-spec =
     (λ c. search needs)
     (λ c κs. search needs)
     (λ c κs. search needs)
+    (λ c. search needs)
     (λ c. search needs)
     (λ c. search needs)
     (λ c. search needs)

@@ -1,0 +1,26 @@
+use Prim.Native.Nat.{_≤_, _-_}
+use borrow.Author.Needs.{needs}
+use Rattle.entry_runs.proofs.sum_words.Statement.{statement}
+use Rattle.entry_runs.proofs.sum_words.Tie as tie
+
+abbrev Inv-loop : tie.InvT-loop
+Inv-loop words before sum₀ i₀ i-end sum i = i ≤ i-end
+
+abbrev μ-loop : tie.MeasureT-loop
+μ-loop words before sum₀ i₀ i-end sum i = i-end - i
+
+pub sum-words-spec : {M : Type 1} → statement M
+sum-words-spec =
+    tie.close
+    (tie.spec
+    Inv-loop
+    μ-loop
+    (λ c. search needs)
+    (λ c. search needs)
+    (λ c. search needs)
+    (λ c. search needs)
+    (λ c κs. search needs)
+    (λ c. search needs)
+    (λ c. search needs)
+    (λ c. search needs)
+    (λ c. search needs))
