@@ -89,12 +89,12 @@ unfoldable pub hex4 : ℕ → List ℕ
 hex4 x = hexDigit (x / 4096 % 16) ∷ hexDigit (x / 256 % 16) ∷ hexDigit (x / 16 % 16) ∷ hexDigit (x % 16) ∷ []
 
 -- "record number from 1, answer, value (0 if none) as four lower-case hex digits"
-abbrev pub entry : ℕ → Reply → List ℕ
-entry number r = decimal number ++ (0x20 ∷ decimal (r .number)) ++ (0x20 ∷ hex4 (r .value))
+abbrev pub columns : ℕ → Reply → List ℕ
+columns number r = decimal number ++ (0x20 ∷ decimal (r .number)) ++ (0x20 ∷ hex4 (r .value))
 
 -- "Each line" is that. "Bytes put out by a send are not printed."
 unfoldable pub line : ℕ → Reply → List ℕ
-line number r = entry number r ++ (0x0a ∷ [])
+line number r = columns number r ++ (0x0a ∷ [])
 
 -- a program's line, by the record's number, what the record asks for and the answer to it; the bench's
 abbrev pub Form : Type 0

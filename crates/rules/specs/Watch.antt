@@ -7,7 +7,7 @@ use lib.ListN.{length, take}
 use Rattle.rules.specs.Bits.{flag}
 use Rattle.rules.specs.Answers.{Reply}
 use Rattle.rules.specs.Interrupts.{lineUp}
-use Rattle.rules.specs.Bench.{Event, access, wire, frameEnds, send, unknown, Form, entry, hexDigit, printed, started}
+use Rattle.rules.specs.Bench.{Event, access, wire, frameEnds, send, unknown, Form, columns, hexDigit, printed, started}
 
 -- is it a send
 unfoldable pub isSend : Event → Bool
@@ -32,7 +32,7 @@ more r up sent output = (0x20 ∷ (0x30 + flag up) ∷ []) ++ putOut sent r outp
 
 -- before it: what the bench's line has
 unfoldable pub watchLine : ℕ → Reply → Bool → Bool → List ℕ → List ℕ
-watchLine number r up sent output = entry number r ++ more r up sent output
+watchLine number r up sent output = columns number r ++ more r up sent output
 
 -- the interrupt line and the output buffer are those after the record, also where the answer is 17
 abbrev pub watched : Form

@@ -76,17 +76,17 @@ lastLine form zero k b = []
 lastLine form (suc t) k b = form k unknown (answer unknown b)
 
 -- what is printed with this bound on the records
-abbrev Prints : Form → ℕ → Type 0
-Prints form fuel = (n t k : ℕ) (input : List ℕ) (b : Bench) → length input ≡ 8 * n + t → t < 8 → length input ≤ fuel
+abbrev PrintsWithin : Form → ℕ → Type 0
+PrintsWithin form fuel = (n t k : ℕ) (input : List ℕ) (b : Bench) → length input ≡ 8 * n + t → t < 8 → length input ≤ fuel
     → printed form fuel k input b ≡ linesFor form n k input b ++ lastLine form t (k + n) (benchAfter n input b)
 
-prints-none : (form : Form) → Prints form zero
+prints-none : (form : Form) → PrintsWithin form zero
 unfolding printed linesFor
 prints-none form zero zero k input b h l f = refl
 prints-none form zero (suc t) k input b h l f = absurd (omega (arith, h, f))
 prints-none form (suc n) t k input b h l f = absurd (omega (arith, h, f))
 
-prints-more : (form : Form) (fuel : ℕ) → Prints form fuel → Prints form (suc fuel)
+prints-more : (form : Form) (fuel : ℕ) → PrintsWithin form fuel → PrintsWithin form (suc fuel)
 unfolding printed benchAfter linesFor
 prints-more form fuel ih zero zero k [] b h l f = refl
 prints-more form fuel ih zero (suc t) k [] b h l f = absurd (omega (arith, h))
@@ -105,7 +105,7 @@ prints-more form fuel ih (suc n) t k (x ∷ xs) b h l f =
     ∙ ap₂ (λ (p q : List ℕ). p ++ q) (sym (lines-later form n k (x ∷ xs) b))
     (ap₂ (λ (j : ℕ) (c : Bench). lastLine form t j c) (sym e) (sym (bench-later n (x ∷ xs) b))))
 
-prints : (form : Form) (fuel : ℕ) → Prints form fuel
+prints : (form : Form) (fuel : ℕ) → PrintsWithin form fuel
 prints form zero = prints-none form
 prints form (suc fuel) = prints-more form fuel (prints form fuel)
 
