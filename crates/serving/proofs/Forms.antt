@@ -1,14 +1,15 @@
 -- The two forms of a line, and the room that lines take.
 use mathlib.Core.Path.{_≡_, refl, ap, sym, _∙_}
 use mathlib.Core.Bool.{Bool, true, false}
-use mathlib.Core.List.{List}
-use Prim.Native.Nat.{ℕ, _+_, _≤_}
+use mathlib.Core.List.{List, []}
+use Prim.Native.Nat.{ℕ, zero, suc, _+_, _≤_}
 use native.Mathlib.Omega.{arith}
 use Rattle.rules.specs.Answers.{Reply}
 use Rattle.rules.specs.Interrupts.{lineUp}
-use Rattle.rules.specs.Bench.{Event, Answered, line}
+use Rattle.rules.specs.Bench.{Event, unknown, Bench, Answered, Form, answer, line}
 use Rattle.rules.specs.Watch.{isSend, watchLine}
 use Rattle.serving.specs.Batch.{formOf, widest, roomFor}
+use Rattle.serving.specs.Printed.{lastLine}
 
 -- a reply is its number and its value
 reply-of : {n v : ℕ} {r : Reply} → n ≡ r .number → v ≡ r .value → record { number = n; value = v } ≡ r
@@ -22,6 +23,18 @@ module _ {watching : Bool} (number : ℕ) (e : Event) (x : Answered) {n v : ℕ}
   pub watched-line : {up sent : Bool} → watching ≡ true → up ≡ lineUp (x .after .chip) → sent ≡ isSend e
       → watchLine number (record { number = n; value = v }) up sent (x .after .output) ≡ formOf watching number e x
   watched-line w u s = (λ i. watchLine number (reply-of {r = x .reply} p q i) (u i) (s i) (x .after .output)) ∙ sym (ap (λ (b : Bool). formOf b number e x) w)
+
+-- Where no byte is left over there is no last line; else it is that of a record of unknown kind, which no send is.
+pub last-none : (form : Form) (k : ℕ) (b : Bench) {t : ℕ} → t ≡ 0 → lastLine form t k b ≡ []
+last-none form k b e = ap (λ (t : ℕ). lastLine form t k b) e
+
+pub last-some : (form : Form) (t k : ℕ) (b : Bench) → (t ≡ 0 → ⊥) → lastLine form t k b ≡ form k unknown (answer unknown b)
+last-some form zero k b h = absurd (h refl)
+last-some form (suc t) k b h = refl
+
+pub unknown-unsent : false ≡ isSend unknown
+unfolding isSend
+unknown-unsent = refl
 
 -- How long a line is.
 pub wide-plain : {w : Bool} → w ≡ false → widest w ≡ 30

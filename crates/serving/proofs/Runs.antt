@@ -18,7 +18,7 @@ use Rattle.serving.specs.Batch as batch
 use Rattle.serving.specs.Batch.{formOf, Prints, recordAt, benchAfter, linesFor}
 
 -- What stands before the place behind a piece of text: what stood before it, and the text.
-taken : {before after text : List ℕ} {at end : ℕ} → at ≤ length before → Writes before at text after end → take end after ≡ take at before ++ text
+pub taken : {before after text : List ℕ} {at end : ℕ} → at ≤ length before → Writes before at text after end → take end after ≡ take at before ++ text
 taken {before} {after} {text} {at} {end} h w =
     let front : length (take at before ++ text) ≡ end = length-append (take at before) text ∙ omega (arith, length-take-le at before h, w .place) in
     ap (take end) (w .buffer ∙ sym (append-assoc (take at before) text (drop (at + length text) before)))

@@ -12,6 +12,7 @@ ghost use Rattle.records.specs.Counting.{Counts};
 ghost use Rattle.records.specs.Gathers.{holding};
 ghost use Rattle.serving.specs.Turns.{Held};
 ghost use Rattle.serving.specs.Batch.{formOf, widest, roomFor, Prints, Answered};
+ghost use Rattle.serving.specs.Printed.{lastLine};
 
 // The line of a record, the bench's or that of `watch`; returns the place behind it.
 pub fn print(
@@ -34,6 +35,35 @@ pub fn print(
     }
     let up = registers::line_up(words);
     records::watched_at(lines, at, counter, shown, up, sent, out)
+}
+
+// The line of a record that the input's end cuts short after `kept` bytes, if there are any; returns the place behind it.
+pub fn last_line(
+    watching: bool,
+    words: &[u16],
+    out: &[u8],
+    lines: &mut [u8],
+    kept: usize,
+    number: u64,
+) -> usize
+    requires { ⌜ Kept (now words) × ((q : List ℕ) × QueuesIn (figures (now words)) q) × (length (now out) ≡ 2048) × (roomFor watching 1 ≤ length (now lines)) ⌝ }
+    ensures text { λ end. ⌜ ((s q mem wire : List ℕ) → QueuesIn (figures (now (words .entry))) q → take end (now (lines .exit)) ≡ lastLine (formOf watching) kept number (holding (view (now (words .entry)) s q mem) wire (now (out .entry)))) ⌝ }
+    ensures fits { λ end. ⌜ end ≤ length (now (lines .entry)) ⌝ }
+{
+    if kept == 0 {
+        return 0;
+    }
+    let counter = records::counter_of(number);
+    print(
+        watching,
+        lines,
+        0,
+        counter,
+        Answer::CutShort,
+        false,
+        words,
+        out,
+    )
 }
 
 // Each complete record of the input; the lines stand before `end`.

@@ -1,7 +1,6 @@
 // From standard input to standard output: what is there is read, its complete records are answered, and their lines are written, until the input ends.
 use crate::batch::answer_all;
-use crate::batch::print;
-use state::Answer;
+use crate::batch::last_line;
 use streams::Reading;
 ghost use mathlib.Core.Path.{_≡_};
 ghost use mathlib.Core.List.{List};
@@ -71,20 +70,7 @@ fn finish(
     if let Reading::Failed = reading {
         streams::unread(program, number - 1);
     }
-    if kept == 0 {
-        return;
-    }
-    let counter = records::counter_of(number);
-    let end = print(
-        watching,
-        lines,
-        0,
-        counter,
-        Answer::CutShort,
-        false,
-        words,
-        out,
-    );
+    let end = last_line(watching, words, out, lines, kept, number);
     write_lines(program, lines, end, number);
 }
 
