@@ -7,7 +7,7 @@ use lib.ListN.{length, getD}
 use Rattle.rules.specs.Lists.{member, some?}
 use Rattle.rules.specs.Chip.{Registers, Pool, Chip, size, emptyPool}
 use Rattle.rules.specs.Answers.{Effect, did}
-use Rattle.rules.specs.Fields.{setResult, inRegisters, inPool}
+use Rattle.rules.specs.Fields.{setResult, setWaiting, inRegisters, inPool}
 use Rattle.rules.specs.Mmu.{Command, reset, perform, ifIdle}
 use Rattle.sets.specs.Views.{pagesOf}
 use Rattle.sets.specs.Lists.{lists-length}
@@ -50,11 +50,11 @@ module _ (k : Command) (f : Chip → Effect) (p : (c : Chip) → perform k c ≡
       → (mem : List ℕ) → perform k (view w s q mem) ≡ f (view w s q mem)
   goes-ahead a b u mem = let c = view w s q mem in p c ∙ idle-done c (f c) (has a) (waits b u)
 
--- 40h: the pool is empty, and then the result is stored.
-pub resets : (w s q mem : List ℕ) {w₁ w₂ s′ q′ : List ℕ} → length s ≡ 24 → Emptied w w₁ s′ q′ → Sets (setResult 0x80) w₁ w₂ → Makes (perform reset (view w s q mem)) (Done 0) w₂ s′ q′ mem
+-- 40h: the pool is empty, and then the result is stored, and that nothing waits.
+pub resets : (w s q mem : List ℕ) {w₁ w₂ s′ q′ : List ℕ} → length s ≡ 24 → Emptied w w₁ s′ q′ → Sets (λ r. setWaiting 0 (setResult 0x80 r)) w₁ w₂ → Makes (perform reset (view w s q mem)) (Done 0) w₂ s′ q′ mem
 unfolding perform
 resets w s q mem {s′ = s′} {q′ = q′} long e g =
-    performs reset w s q mem (λ x. inRegisters (setResult 0x80) (inPool (λ p. emptyPool (size x)) x)) refl
+    performs reset w s q mem (λ x. inRegisters (λ r. setWaiting 0 (setResult 0x80 r)) (inPool (λ p. emptyPool (size x)) x)) refl
     (sets-chip g s′ q′ mem
-    ∙ ap₂ (λ (r : Registers) (p : Pool). inRegisters (setResult 0x80) (record { regs = r; pool = p; memory = mem })) (e .regs) (e .pool ∙ ap emptyPool (sym (lists-length s ∙ long))))
+    ∙ ap₂ (λ (r : Registers) (p : Pool). inRegisters (λ x. setWaiting 0 (setResult 0x80 x)) (record { regs = r; pool = p; memory = mem })) (e .regs) (e .pool ∙ ap emptyPool (sym (lists-length s ∙ long))))
     (sets-sound g (e .sound))

@@ -12,12 +12,10 @@ use Rattle.rules.specs.Chip.{Chip, free, allocated}
 use Rattle.rules.specs.Fields.{setResult, setRx, setTx, inRegisters, inPool}
 use Rattle.rules.specs.Answers.{Effect, did, refuse}
 use Rattle.rules.specs.WellFormed.{GoodPages, WellFormed}
-use Rattle.rules.specs.Mmu.{allocate, removeRx, removeAndRelease, release, enqueue, unknown, decode, perform, grant, giveBack, queued, ifIdle, ifHead}
+use Rattle.rules.specs.Mmu.{allocate, removeRx, removeAndRelease, release, enqueue, unknown, decode, perform, grant, pend, giveBack, queued, ifIdle, ifHead}
 use Rattle.lists.specs.Facts.{or-right, no-head, head-and-rest, member-at, member-cases}
-use Rattle.wellformed.specs.Count.{unallocated, distinct-few}
-use Rattle.wellformed.specs.Pages.{first-empty}
+use Rattle.wellformed.specs.Count.{distinct-few}
 use Rattle.wellformed.specs.Pool.{has-small}
-use Rattle.pool.specs.Pages.{Grantable}
 
 -- The values that are ranges.
 pub decode-allocate : (v : ℕ) → 32 ≤ v → v < 40 → decode v ≡ allocate (v % 8 + 1)
@@ -34,7 +32,7 @@ module _ (c : Chip) where
   unfolding perform
   allocates n h = rw (le-leb _ _ h)
 
-  pub allocates-none : (n : ℕ) → length (free c) < n → perform (allocate n) c ≡ did (inRegisters (setResult 0x80) c)
+  pub allocates-none : (n : ℕ) → length (free c) < n → perform (allocate n) c ≡ did (pend n c)
   unfolding perform
   allocates-none n h = rw (lt-leb _ _ h)
 
@@ -79,16 +77,6 @@ module _ (c : Chip) where
 
     pub idle-done : allocated (c .regs .numbers .packet) c ≡ true → queued (c .regs .numbers .packet) c ≡ false → ifIdle c s ≡ s
     idle-done a q = rw (a, q)
-
--- Where so many pages are free, the lowest unallocated number may get them.
-pub grantable : (ls : List (List ℕ)) (n : ℕ) → length ls ≡ 24 → GoodPages 24 ls → 1 ≤ n → n ≤ 8 → n ≤ length (freeBelow 24 ls) → Grantable (firstEmpty ls) n ls
-grantable ls n long good some short few = record {
-  good = good;
-  number = omega (arith, long, unallocated ls (rw long good) (rw long (omega (arith, some, few))));
-  none = first-empty ls;
-  short = short;
-  few = few;
-}
 
 -- What well-formedness gives a command.
 module _ (c : Chip) (w : WellFormed c) where

@@ -8,18 +8,15 @@ use register::do_enqueue;
 use register::do_release;
 use rx::do_remove;
 use rx::do_remove_and_release;
-use sets::Packet;
 use state::Answer;
 use state::NO_PACKET;
-use state::PACKET;
 ghost use mathlib.Core.List.{List, map};
 ghost use Prim.Native.Nat.{ℕ, _≤_};
-ghost use Rattle.rules.specs.Fields.{setResult};
 ghost use Rattle.rules.specs.Mmu as rules;
 ghost use Rattle.rules.specs.WellFormed.{GoodPages};
 ghost use Rattle.sets.specs.Views.{pagesOf};
 ghost use Rattle.state.specs.View.{view, figures, Kept};
-ghost use Rattle.state.specs.Promise.{Sets, QueuesIn, SetsIn, Sound, Ready, Makes};
+ghost use Rattle.state.specs.Promise.{QueuesIn, SetsIn, Sound, Ready, Makes};
 ghost use Rattle.commands.specs.Orders.{Performs};
 
 // The commands of the MMU command register.
@@ -35,25 +32,16 @@ enum Order {
     Unknown,
 }
 
-// The allocation result is k.
-fn give_result(words: &mut [u16], k: u8)
-    requires { ⌜ Kept (now words) ⌝ }
-    ensures { λ _. ⌜ Sets (setResult k) (now (words .entry)) (now (words .exit)) ⌝ }
-{
-    words[PACKET] = bits::word(bits::low_byte(words[PACKET]), k);
-}
-
+// Enough pages are free, or the request waits for them.
 fn do_allocate(words: &mut [u16], sets: &mut [u32], need: u32) -> Answer
     requires { ⌜ (1 ≤ need) × (need ≤ 8) × Kept (now words) × SetsIn (figures (now words)) (now sets) × GoodPages 24 (map pagesOf (now sets)) ⌝ }
     ensures { λ a. ⌜ ((q : List ℕ) → QueuesIn (figures (now (words .entry))) q → Performs (rules.allocate need) (now (words .entry)) (now (sets .entry)) q a (now (words .exit)) (now (sets .exit)) q) ⌝ }
 {
     if need <= pool::free_count(words) {
-        let k = sets::lowest_unallocated(sets) as u8;
-        pool::grant(words, sets, Packet(k), need);
-        give_result(words, k);
+        pool::allocate(words, sets, need);
         return Answer::Done(0);
     }
-    give_result(words, NO_PACKET);
+    pool::give_result(words, NO_PACKET, need as u16);
     Answer::Done(0)
 }
 
@@ -62,7 +50,7 @@ fn do_reset(words: &mut [u16], sets: &mut [u32], queues: &mut [u8]) -> Answer
     ensures { λ a. ⌜ Performs rules.reset (now (words .entry)) (now (sets .entry)) (now (queues .entry)) a (now (words .exit)) (now (sets .exit)) (now (queues .exit)) ⌝ }
 {
     pool::reset(words, sets, queues);
-    give_result(words, NO_PACKET);
+    pool::give_result(words, NO_PACKET, 0);
     Answer::Done(0)
 }
 

@@ -4,6 +4,9 @@ mod words; // words.rt: the registers
 
 use fifos::queues_good;
 use state::MIR;
+use state::PACKET;
+use state::WAITING;
+use words::request_good;
 use words::words_good;
 ghost use mathlib.Core.Path.{_≡_};
 ghost use lib.ListN.{length};
@@ -22,6 +25,9 @@ pub fn well_formed(words: &[u16], sets: &[u32], queues: &[u8]) -> bool
         return false;
     }
     if words[MIR] as u32 != 24 + pages.1 * 256 {
+        return false;
+    }
+    if !request_good(words[MIR], words[PACKET], words[WAITING]) {
         return false;
     }
     queues_good(words, sets, queues)

@@ -11,6 +11,7 @@ ghost use lib.ListN.{length};
 ghost use Rattle.rules.specs.WellFormed.{GoodNumbers};
 ghost use Rattle.lists.specs.Facts.{Decides};
 ghost use Rattle.state.specs.View.{registersIn, Latches, Fixed, BlankIn, Kept};
+ghost use Rattle.state.specs.WellFormed.{RequestFormed};
 
 // Packet number and allocation result.
 fn packet_good(packet: u16) -> bool
@@ -55,7 +56,23 @@ fn blanks_good(words: &[u16]) -> bool
     requires { ⌜ length (now words) ≡ 32 ⌝ }
     ensures { λ b. ⌜ Decides b (BlankIn (now (words .entry))) ⌝ }
 {
-    (words[15] | words[16] | words[18] | words[20] | words[21] | words[23]) == 0
+    (words[15] | words[16] | words[18] | words[20] | words[21]) == 0
+}
+
+// An allocation that waits is for 1 to 8 pages, more than are free, with the result at 80h.
+pub fn request_good(mir: u16, packet: u16, waiting: u16) -> bool
+    ensures { λ b. ⌜ Decides b (RequestFormed mir packet waiting) ⌝ }
+{
+    if waiting == 0 {
+        return true;
+    }
+    if 8 < waiting {
+        return false;
+    }
+    if waiting <= mir / 256 {
+        return false;
+    }
+    packet / 256 == 0x80
 }
 
 pub fn words_good(words: &[u16]) -> bool

@@ -75,7 +75,7 @@ unfolding member
 member-right x [] t m = m
 member-right x (y ∷ s) t m = or-true (eqb x y) (member-right x s t m)
 
-free-listed : (n : ℕ) (ls : List (List ℕ)) (p : ℕ) → p < n → owned p ls ≡ false → member p (freeBelow n ls) ≡ true
+pub free-listed : (n : ℕ) (ls : List (List ℕ)) (p : ℕ) → p < n → owned p ls ≡ false → member p (freeBelow n ls) ≡ true
 unfolding freeBelow unless
 free-listed zero ls p h o = absurd (omega arith)
 free-listed (suc n) ls p h o = go (free-listed n ls p) (ℕ-discrete p n)

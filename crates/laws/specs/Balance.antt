@@ -1,17 +1,19 @@
 -- The ledger balances: the free pages with the pages granted are n with the pages given back, for any n up to 128.
 use mathlib.Core.Path.{_≡_, refl, ap, ap₂, sym, subst, _∙_}
 use mathlib.Core.List.{List, [], _∷_, _++_, map}
-use Prim.Native.Nat.{ℕ, zero, suc, _+_, _≤_}
+use Prim.Native.Nat.{ℕ, zero, suc, _+_, _≤_, _<_}
 use native.Mathlib.Omega.{arith}
-use lib.ListN.{length, getD, set, replicate, length-set, length-replicate, List·getD-map}
+use lib.ListN.{length, getD, set, take, replicate, length-take, List·getD-map}
+use Rattle.rules.specs.Lists.{firstEmpty}
 use Rattle.rules.specs.Chip.{Chip, free, powered}
 use Rattle.rules.specs.Step.{Input, stepOf, runOf}
 use Rattle.lists.specs.Facts.{map-set}
+use Rattle.wellformed.specs.Pages.{first-empty}
 use Rattle.wellformed.specs.Count.{total, total-set, free-and-total}
 use Rattle.wellformed.specs.Fit.{Fits}
 use Rattle.wellformed.specs.Keeps.{keeps, powered-fits}
-use Rattle.laws.specs.Ledger.{Entry, grants, returns, restarts, just, entriesOf, Resets, Ledger, blank, entered, enteredAll, ledgerFrom}
-use Rattle.laws.specs.Told.{Applies, AllApply, told}
+use Rattle.laws.specs.Ledger.{Entry, returns, restarts, just, entriesOf, Resets, Ledger, blank, grantedTo, entered, enteredAll, ledgerFrom}
+use Rattle.laws.specs.Told.{Held, heldBy, freeOf, Room, allotted, emptied, Settles, waits, completes, Moves, stays, takes, requests, frees, empties, told}
 
 -- All lists emptied: how many pages there are, and how long each list is.
 total-none : (n : ℕ) → total (replicate n []) ≡ 0
@@ -28,36 +30,53 @@ pub record Balanced (ls : List (List ℕ)) (l : Ledger) : Type 0 where
   pub holds : map length ls ≡ l .holds
   pub even : l .granted ≡ total ls + l .back
 
--- Each entry keeps the balance and the number of lists, and so do entries one after another.
-entry-balanced : (n : ℕ) (e : Entry) (a b : List (List ℕ)) (l : Ledger) → length a ≡ n → Applies n e a b → Balanced a l → Balanced b (entered n e l) × (length b ≡ n)
+-- So it does after a grant, and after pages are given back.
+allot-balanced : (m : ℕ) (ls : List (List ℕ)) (l : Ledger) → Room m ls → Balanced ls l → Balanced (allotted m ls) (grantedTo (firstEmpty ls) m l)
+allot-balanced m ls l r h =
+    let k = firstEmpty ls in
+    let got = take m (freeOf ls) in
+    let many : length got ≡ m = simp length-take (omega (arith, r .enough)) in
+    record {
+      holds = map-set length ls k got ∙ ap₂ (λ (x : List ℕ) (y : ℕ). set x k y) (h .holds) many;
+      even = omega (arith, total-set ls k got (r .number), ap length (first-empty ls), many, h .even);
+    }
+
+back-balanced : (n k : ℕ) (ls : List (List ℕ)) (l : Ledger) → k < length ls → Balanced ls l → Balanced (set ls k []) (entered n (returns k) l)
 unfolding entered
-entry-balanced n (grants k m) a b l z p h = (
-  record {
-    holds = rw (p .4) (map-set length a k (p .0) ∙ ap₂ (λ (x : List ℕ) (y : ℕ). set x k y) (h .holds) (p .3));
-    even = rw (p .4) (omega (arith, total-set a k (p .0) (omega (arith, p .1)), ap length (p .2), p .3, h .even));
-  },
-  rw (p .4) (length-set a k (p .0) ∙ z),
-)
-entry-balanced n (returns k) a b l z p h =
-    let had : getD (l .holds) k 0 ≡ length (getD a k []) = ap (λ (x : List ℕ). getD x k 0) (sym (h .holds)) ∙ List·getD-map length a k [] in (
-      record {
-        holds = rw (p .1) (map-set length a k [] ∙ ap (λ (x : List ℕ). set x k 0) (h .holds));
-        even = rw (p .1) (omega (arith, total-set a k [] (omega (arith, p .0)), had, h .even));
-      },
-      rw (p .1) (length-set a k [] ∙ z),
-    )
-entry-balanced n restarts a b l z p h = (record { holds = rw p (lengths-none n); even = rw p (omega (arith, total-none n)) }, rw p (length-replicate n []))
+back-balanced n k ls l r h =
+    let had : getD (l .holds) k 0 ≡ length (getD ls k []) = ap (λ (x : List ℕ). getD x k 0) (sym (h .holds)) ∙ List·getD-map length ls k [] in
+    record { holds = map-set length ls k [] ∙ ap (λ (x : List ℕ). set x k 0) (h .holds); even = omega (arith, total-set ls k [] r, had, h .even) }
 
-entries-balanced : (n : ℕ) (es : List Entry) (a b : List (List ℕ)) (l : Ledger) → length a ≡ n → AllApply n es a b → Balanced a l → Balanced b (enteredAll n es l)
-unfolding enteredAll
-entries-balanced n [] a b l z p h = rw p h
-entries-balanced n (e ∷ es) a b l z p h =
-    let w = entry-balanced n e a (p .0) l z (p .1) h in
-    entries-balanced n es (p .0) b (entered n e l) (w .1) (p .2) (w .0)
+-- the ledger follows what a chip holds: it balances, and what waits is what was asked for last
+pub record Follows (a : Held) (l : Ledger) : Type 0 where
+  pub balanced : Balanced (a .pages) l
+  pub asked : 0 < a .waiting → a .waiting ≡ l .asked
 
--- A ledger that starts anew balances where no packet has pages.
-blank-balanced : (n : ℕ) → Balanced (replicate n []) (blank n)
-blank-balanced n = record { holds = lengths-none n; even = omega (arith, total-none n) }
+-- A ledger that starts anew follows a chip on which no packet has pages and nothing waits.
+blank-follows : (n : ℕ) → Follows (emptied n) (blank n)
+blank-follows n = record { balanced = record { holds = lengths-none n; even = omega (arith, total-none n) }; asked = λ none. absurd (omega (arith, none)) }
+
+-- So it does after all that a step may do.
+settles-follows : (n : ℕ) {a b : Held} {es : List Entry} (l : Ledger) → Settles a b es → Follows a l → Follows b (enteredAll n es l)
+unfolding enteredAll entered
+settles-follows n l (waits _) h = h
+settles-follows n {a} l (completes some r) h = record {
+  balanced = subst (λ (m : ℕ). Balanced (allotted (a .waiting) (a .pages)) (grantedTo (firstEmpty (a .pages)) m l)) (h .asked some) (allot-balanced (a .waiting) (a .pages) l r (h .balanced));
+  asked = λ none. absurd (omega (arith, none));
+}
+
+empties-follows : (n : ℕ) {a b : Held} (l : Ledger) → length (a .pages) ≡ n → Moves a b (just restarts) → Follows b (enteredAll n (just restarts) l)
+unfolding enteredAll entered
+empties-follows n l z empties = rw z (blank-follows n)
+
+moves-follows : (n : ℕ) {a b : Held} {es : List Entry} (l : Ledger) → length (a .pages) ≡ n → Moves a b es → Follows a l → Follows b (enteredAll n es l)
+unfolding enteredAll entered
+moves-follows n l z stays h = h
+moves-follows n {a} l z (takes m r) h = record { balanced = allot-balanced m (a .pages) l r (h .balanced); asked = h .asked }
+moves-follows n l z (requests m v s) h =
+    settles-follows n _ s (record { balanced = record { holds = h .balanced .holds; even = h .balanced .even }; asked = λ some. refl })
+moves-follows n {a} l z (frees k r s) h = settles-follows n _ s (record { balanced = back-balanced n k (a .pages) l r (h .balanced); asked = h .asked })
+moves-follows n {a} l z empties h = empties-follows n {a = a} l z empties
 
 -- The chip after inputs that are run one after another is well formed.
 pub run-fits : (n : ℕ) (inputs : List Input) (c : Chip) → Fits n c → Fits n (runOf n inputs c .chip)
@@ -73,39 +92,31 @@ module _ (n : ℕ) (small : n ≤ 128) where
   free-even : (c : Chip) (l : Ledger) → Fits n c → Balanced (c .pool .pages) l → Even c l
   free-even c l w b = omega (arith, b .even, free-and-total (length (c .pool .pages)) (c .pool .pages) (rw (w .0 .count) (w .0 .pages)), w .0 .count)
 
-  -- Over any list of inputs, from a chip and a ledger that balance.
-  run-balanced : (inputs : List Input) (c : Chip) (l : Ledger) → Fits n c → Balanced (c .pool .pages) l → Balanced (runOf n inputs c .chip .pool .pages) (ledgerFrom n inputs c l)
+  -- Over any list of inputs, from a chip that the ledger follows.
+  run-follows : (inputs : List Input) (c : Chip) (l : Ledger) → Fits n c → Follows (heldBy c) l → Follows (heldBy (runOf n inputs c .chip)) (ledgerFrom n inputs c l)
   unfolding runOf ledgerFrom
-  run-balanced [] c l w h = h
-  run-balanced (i ∷ is) c l w h =
+  run-follows [] c l w h = h
+  run-follows (i ∷ is) c l w h =
       let t = stepOf n i c in
-      run-balanced is (t .chip) (enteredAll n (entriesOf i c t) l) (keeps n c w i)
-      (entries-balanced n (entriesOf i c t) (c .pool .pages) (t .chip .pool .pages) l (w .0 .count) (told n small c w i) h)
+      run-follows is (t .chip) (enteredAll n (entriesOf i c t) l) (keeps n c w i) (moves-follows n l (w .0 .count) (told n small c w i) h)
+
+  run-even : (inputs : List Input) (c : Chip) (l : Ledger) → Fits n c → Follows (heldBy c) l → Even (runOf n inputs c .chip) (ledgerFrom n inputs c l)
+  run-even inputs c l w h = free-even (runOf n inputs c .chip) _ (run-fits n inputs c w) (run-follows inputs c l w h .balanced)
 
   -- For every history from power-up.
   pub balances : (inputs : List Input) → Even (runOf n inputs (powered n) .chip) (ledgerFrom n inputs (powered n) (blank n))
-  balances inputs =
-      free-even (runOf n inputs (powered n) .chip) _ (run-fits n inputs (powered n) (powered-fits n)) (run-balanced inputs (powered n) (blank n) (powered-fits n) (blank-balanced n))
+  balances inputs = run-even inputs (powered n) (blank n) (powered-fits n) (blank-follows n)
 
-  -- After a soft or MMU reset no packet has pages, and the ledger is blank, whatever it said before.
-  reset-empties : (i : Input) (c : Chip) → Fits n c → Resets n i c → stepOf n i c .chip .pool .pages ≡ replicate n []
-  reset-empties i c w r =
-      let t = stepOf n i c in
-      let a : AllApply n (just restarts) (c .pool .pages) (t .chip .pool .pages) = rw r at (told n small c w i) in
-      a .2 ∙ a .1
-
-  reset-blanks : (i : Input) (c : Chip) (l : Ledger) → Resets n i c → enteredAll n (entriesOf i c (stepOf n i c)) l ≡ blank n
-  unfolding enteredAll entered
-  reset-blanks i c l r = ap (λ (es : List Entry). enteredAll n es l) r
+  -- After a soft or MMU reset the ledger follows the chip, whatever it said before.
+  reset-follows : (i : Input) (c : Chip) (l : Ledger) → Fits n c → Resets n i c → Follows (heldBy (stepOf n i c .chip)) (enteredAll n (entriesOf i c (stepOf n i c)) l)
+  reset-follows i c l w r =
+      let d = heldBy (stepOf n i c .chip) in
+      subst (λ (es : List Entry). Moves (heldBy c) d es → Follows d (enteredAll n es l)) (sym r) (empties-follows n l (w .0 .count)) (told n small c w i)
 
   -- So the ledger balances after such a step and any inputs behind it, from any well-formed chip and whatever the ledger said.
   pub balances-since : (i : Input) (after : List Input) (c : Chip) (l : Ledger) → Fits n c → Resets n i c → Even (runOf n (i ∷ after) c .chip) (ledgerFrom n (i ∷ after) c l)
   unfolding runOf ledgerFrom
-  balances-since i after c l w r =
-      let d = stepOf n i c .chip in
-      let k = keeps n c w i in
-      let even = free-even (runOf n after d .chip) _ (run-fits n after d k) (run-balanced after d (blank n) k (subst (λ (ls : List (List ℕ)). Balanced ls (blank n)) (sym (reset-empties i c w r)) (blank-balanced n))) in
-      subst (λ (m : Ledger). Even (runOf n after d .chip) (ledgerFrom n after d m)) (sym (reset-blanks i c l r)) even
+  balances-since i after c l w r = run-even after (stepOf n i c .chip) (enteredAll n (entriesOf i c (stepOf n i c)) l) (keeps n c w i) (reset-follows i c l w r)
 
 -- What came before: a run and its ledger go on from where they were.
 pub run-joined : (n : ℕ) (before after : List Input) (c : Chip) → runOf n (before ++ after) c .chip ≡ runOf n after (runOf n before c .chip) .chip

@@ -62,6 +62,7 @@ toLists y =
         control = word w 14;
         packet = word w 17 % 256;
         result = word w 17 / 256;
+        waiting = word w 23;
         pointer = word w 19;
         mask = word w 22 / 256;
         table = bytes (word w 24) (bytes (word w 25) (bytes (word w 26) (bytes (word w 27) [])));

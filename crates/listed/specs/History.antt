@@ -78,6 +78,7 @@ listedPowerUp = record {
     control = 0;
     packet = 0;
     result = 0x80;
+    waiting = 0;
     pointer = 0;
     mask = 0;
     table = replicate 8 0;
@@ -119,7 +120,7 @@ listed-typed =
     let byte : 0 < 256 = omega arith in
     let word : 0 < 65536 = omega arith in
     record {
-      words = λ i. each-at (λ x. x < 65536) (replicate 6 0) i 0 (word, (word, (word, (word, (word, (word, tt)))))) word;
+      words = λ i. each-at (λ x. x < 65536) (replicate 7 0) i 0 (word, (word, (word, (word, (word, (word, (word, tt))))))) word;
       bytes = λ i. each-at (λ x. x < 256) (0 ∷ 0 ∷ 0 ∷ 0x80 ∷ 0 ∷ []) i 0 (byte, (byte, (byte, (omega arith, (byte, tt))))) byte;
       six = refl;
       station = λ i. each-at (λ x. x < 256) (replicate 6 0) i 0 (byte, (byte, (byte, (byte, (byte, (byte, tt)))))) byte;

@@ -69,7 +69,7 @@ abbrev pub registersOf : Registers → rules.Registers
 registersOf r = record {
   sending = record { tcr = r .tcr; ephsr = r .ephsr; ecr = r .ecr; txEmpty = r .txempty };
   receiving = record { rcr = r .rcr; reserved = r .reserved; station = r .station; table = r .table; overrun = r .overrun };
-  numbers = record { bank = r .bank; packet = r .packet; result = r .result };
+  numbers = record { bank = r .bank; packet = r .packet; result = r .result; waiting = r .waiting };
   pointer = r .pointer;
   control = r .control;
   mask = r .mask;
@@ -111,6 +111,7 @@ module _ {r s : Registers} {m n : List (List Page)} {a b : List ℕ} (x : Ready 
         control = of (λ c. c .regs .control) i;
         packet = of (λ c. c .regs .numbers .packet) i;
         result = of (λ c. c .regs .numbers .result) i;
+        waiting = of (λ c. c .regs .numbers .waiting) i;
         pointer = of (λ c. c .regs .pointer) i;
         mask = of (λ c. c .regs .mask) i;
         table = of (λ c. c .regs .receiving .table) i;

@@ -26,7 +26,7 @@ Words l = (i : ℕ) → getD l i 0 < 65536
 
 -- what the types of the fields say of registers
 pub record Typed (r : Registers) : Type 0 where
-  pub words : Words (r .sending .tcr ∷ r .sending .ephsr ∷ r .sending .ecr ∷ r .receiving .rcr ∷ r .pointer ∷ r .control ∷ [])
+  pub words : Words (r .sending .tcr ∷ r .sending .ephsr ∷ r .sending .ecr ∷ r .receiving .rcr ∷ r .pointer ∷ r .control ∷ r .numbers .waiting ∷ [])
   pub bytes : Bytes (r .receiving .reserved ∷ r .numbers .bank ∷ r .numbers .packet ∷ r .numbers .result ∷ r .mask ∷ [])
   pub six : length (r .receiving .station) ≡ 6
   pub station : Bytes (r .receiving .station)
@@ -118,6 +118,7 @@ module _ (r : Registers) (t : Typed r) (p : Pool) where
           bank = low-of (r .numbers .bank) 0x33 (t .bytes 1) i;
           packet = low-of (r .numbers .packet) (r .numbers .result) (t .bytes 2) i;
           result = high-of (r .numbers .packet) (r .numbers .result) (t .bytes 2) i;
+          waiting = r .numbers .waiting;
         };
         pointer = r .pointer;
         control = r .control;
@@ -133,7 +134,7 @@ module _ (r : Registers) (t : Typed r) (p : Pool) where
       latched = latches (r .sending .txEmpty) (r .receiving .overrun);
       maskLow = low-of 0 (r .mask) (omega arith);
     };
-    blank = record { none15 = refl; none16 = refl; none18 = refl; none20 = refl; none21 = refl; none23 = refl };
+    blank = record { none15 = refl; none16 = refl; none18 = refl; none20 = refl; none21 = refl };
   }
 
   -- and they are words, where the chip is well formed
@@ -196,7 +197,7 @@ module _ (r : Registers) (t : Typed r) (p : Pool) where
                                                   (
                                                     two _ _ (omega arith) (byte 4),
                                                     (
-                                                      none,
+                                                      words 6,
                                                       (table 0, (table 2, (table 4, (table 6, (rx .lower, (rx .upper, (tx .lower, (tx .upper, tt)))))))),
                                                     ),
                                                   ),
@@ -231,7 +232,7 @@ typed-words w h =
     let high : (k : ℕ) → getD w k 0 / 256 < 256 = λ k. omega (arith, h k) in
     let none : 0 < 256 = omega arith in
     record {
-      words = λ i. each-at (λ x. x < 65536) (word w 0 ∷ word w 1 ∷ word w 3 ∷ word w 2 ∷ word w 19 ∷ word w 14 ∷ []) i 0 (h 0, (h 1, (h 3, (h 2, (h 19, (h 14, tt)))))) (omega arith);
+      words = λ i. each-at (λ x. x < 65536) (word w 0 ∷ word w 1 ∷ word w 3 ∷ word w 2 ∷ word w 19 ∷ word w 14 ∷ word w 23 ∷ []) i 0 (h 0, (h 1, (h 3, (h 2, (h 19, (h 14, (h 23, tt))))))) (omega arith);
       bytes = λ i. each-at (λ x. x < 256) (word w 5 % 256 ∷ word w 7 % 256 ∷ word w 17 % 256 ∷ word w 17 / 256 ∷ word w 22 / 256 ∷ []) i 0 (low _, (low _, (low _, (high 17, (high 22, tt))))) none;
       six = refl;
       station = λ i. each-at (λ x. x < 256) (registersIn w .receiving .station) i 0 (low _, (high 10, (low _, (high 11, (low _, (high 12, tt)))))) none;

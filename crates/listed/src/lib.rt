@@ -23,6 +23,7 @@ pub struct Registers {
     pub control: u16,
     pub packet: u8,
     pub result: u8,
+    pub waiting: u16,
     pub pointer: u16,
     pub mask: u8,
     pub table: [u8; 8],

@@ -1,19 +1,20 @@
 -- One packet's pages are others: MIR, stored with the difference, counts the free pages again.
 use mathlib.Core.Path.{_≡_, ap, sym, _∙_}
 use mathlib.Core.List.{List, [], map}
-use Prim.Native.Nat.{ℕ, _+_, _*_, _<_}
+use Prim.Native.Nat.{ℕ, _+_, _*_, _≤_, _<_}
 use native.Mathlib.Omega.{arith}
 use lib.ListN.{length, getD, set, length-set}
 use Rattle.rules.specs.Bits.{wordOf}
-use Rattle.rules.specs.Lists.{freeBelow}
+use Rattle.rules.specs.Lists.{freeBelow, firstEmpty}
 use Rattle.rules.specs.WellFormed.{GoodPages}
-use Rattle.wellformed.specs.Count.{free-set}
+use Rattle.wellformed.specs.Count.{free-set, unallocated}
+use Rattle.wellformed.specs.Pages.{first-empty}
 use Rattle.sets.specs.Views.{pagesOf}
 use Rattle.sets.specs.Lists.{lists-length}
 use Rattle.state.specs.View.{word, figures, withMir}
 use Rattle.state.specs.Promise.{Small, SetsIn}
 use Rattle.state.specs.Stores.{Recounts}
-use Rattle.pool.specs.Pages.{Repages}
+use Rattle.pool.specs.Pages.{Grantable, Repages}
 
 module _ (f : List (List ℕ) → List (List ℕ)) (k : ℕ) (l w w′ s s′ : List ℕ) (y : ℕ)
     (r : Recounts (withMir y (figures w)) w w′) (h : SetsIn (figures w) s) (number : k < 24) (good : GoodPages 24 (map pagesOf s)) (after : GoodPages 24 (set (map pagesOf s) k l))
@@ -41,3 +42,13 @@ module _ (f : List (List ℕ) → List (List ℕ)) (k : ℕ) (l w w′ s s′ : 
       small = small;
     };
   }
+
+-- Where so many pages are free, the lowest unallocated number may get them.
+pub grantable : (ls : List (List ℕ)) (n : ℕ) → length ls ≡ 24 → GoodPages 24 ls → 1 ≤ n → n ≤ 8 → n ≤ length (freeBelow 24 ls) → Grantable (firstEmpty ls) n ls
+grantable ls n long good some short few = record {
+  good = good;
+  number = omega (arith, long, unallocated ls (rw long good) (rw long (omega (arith, some, few))));
+  none = first-empty ls;
+  short = short;
+  few = few;
+}

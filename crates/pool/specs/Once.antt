@@ -8,10 +8,10 @@ use Rattle.rules.specs.Lists.{freeBelow}
 use Rattle.rules.specs.Chip.{Registers, Pool, Chip}
 use Rattle.sets.specs.Views.{pagesOf}
 use Rattle.sets.specs.Members.{setOf}
-use Rattle.state.specs.View.{word, figures, withMir, poolIn}
+use Rattle.state.specs.View.{word, figures, withMir, poolIn, view}
 use Rattle.state.specs.Only.{words-once, sets-known, padded, queues-known, one-state}
 use Rattle.pool.specs.Queues.{Rejoins, Emptied}
-use Rattle.pool.specs.Pages.{Repages}
+use Rattle.pool.specs.Pages.{Repages, Alters}
 
 -- the words and the queues' bytes
 module _ {f : Pool → Pool} {w q w₁ q₁ w₂ q₂ : List ℕ} (a : Rejoins f w q w₁ q₁) (b : Rejoins f w q w₂ q₂) where
@@ -51,6 +51,19 @@ module _ {f : List (List ℕ) → List (List ℕ)} {w s w₁ s₁ w₂ s₂ : Li
     words-once (a .kept) (b .kept) (a .regs ∙ sym (b .regs)) (a .still ∙ ap (λ (x : ℕ). withMir x (figures w)) mir ∙ sym (b .still)),
     sets-known s₁ s₂ (a .sets .small) (b .sets .small) same-pages,
   )
+
+-- the words, registers among them, and the page sets
+module _ {f : Chip → Chip} {w s w₁ s₁ w₂ s₂ : List ℕ} (a : Alters f w s w₁ s₁) (b : Alters f w s w₂ s₂) where
+  same-chip : view w₁ s₁ [] [] ≡ view w₂ s₂ [] []
+  same-chip = a .chip [] [] ∙ sym (b .chip [] [])
+
+  pub alters-once : (w₁ ≡ w₂) × (s₁ ≡ s₂)
+  alters-once =
+      let pages = ap (λ (c : Chip). c .pool .pages) same-chip in
+      let mir = a .sets .free ∙ ap (λ (ls : List (List ℕ)). wordOf 24 (length (freeBelow 24 ls))) pages ∙ sym (b .sets .free) in (
+        words-once (a .kept) (b .kept) (ap (λ (c : Chip). c .regs) same-chip) (a .still ∙ ap (λ (x : ℕ). withMir x (figures w)) mir ∙ sym (b .still)),
+        sets-known s₁ s₂ (a .sets .small) (b .sets .small) pages,
+      )
 
 -- all three
 pub emptied-once : {w w₁ s₁ q₁ w₂ s₂ q₂ : List ℕ} → Emptied w w₁ s₁ q₁ → Emptied w w₂ s₂ q₂ → (w₁ ≡ w₂) × (s₁ ≡ s₂) × (q₁ ≡ q₂)

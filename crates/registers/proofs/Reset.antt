@@ -31,7 +31,7 @@ reset-to = written-out 32 (λ w. WordsReset w (resetWords w)) (λ a b c d e f g 
       kept = record {
         whole = refl;
         fixed = record { bankHigh = refl; reservedHigh = refl; latched = refl; maskLow = refl };
-        blank = record { none15 = refl; none16 = refl; none18 = refl; none20 = refl; none21 = refl; none23 = refl };
+        blank = record { none15 = refl; none16 = refl; none18 = refl; none20 = refl; none21 = refl };
       };
     })
 

@@ -5,7 +5,7 @@ use mathlib.Core.List.{List, [], _∷_, map}
 use Prim.Native.Nat.{ℕ}
 use lib.ListN.{set}
 use Rattle.rules.specs.Chip.{Registers, Pool}
-use Rattle.rules.specs.Fields.{setTcr, setEphsr, setEcr, setTxEmpty, setRcr, setReserved, setStation, setTable, setOverrun, setBank, setPacket, setResult, setPointer, setControl, setMask, setPages, setRx, setTx, setCompletion}
+use Rattle.rules.specs.Fields.{setTcr, setEphsr, setEcr, setTxEmpty, setRcr, setReserved, setStation, setTable, setOverrun, setBank, setPacket, setResult, setWaiting, setPointer, setControl, setMask, setPages, setRx, setTx, setCompletion}
 
 -- what a field holds
 pub data Field : Type 0 where
@@ -19,7 +19,7 @@ abbrev pub fields : Registers → List Field
 fields r =
     number (r .sending .tcr) ∷ number (r .sending .ephsr) ∷ number (r .sending .ecr) ∷ latch (r .sending .txEmpty)
     ∷ number (r .receiving .rcr) ∷ number (r .receiving .reserved) ∷ bytes (r .receiving .station) ∷ bytes (r .receiving .table) ∷ latch (r .receiving .overrun)
-    ∷ number (r .numbers .bank) ∷ number (r .numbers .packet) ∷ number (r .numbers .result)
+    ∷ number (r .numbers .bank) ∷ number (r .numbers .packet) ∷ number (r .numbers .result) ∷ number (r .numbers .waiting)
     ∷ number (r .pointer) ∷ number (r .control) ∷ number (r .mask) ∷ []
 
 abbrev pub poolFields : Pool → List Field
@@ -48,9 +48,10 @@ rows r x b l =
     ∷ row (fields (setBank x r)) 9 (number x)
     ∷ row (fields (setPacket x r)) 10 (number x)
     ∷ row (fields (setResult x r)) 11 (number x)
-    ∷ row (fields (setPointer x r)) 12 (number x)
-    ∷ row (fields (setControl x r)) 13 (number x)
-    ∷ row (fields (setMask x r)) 14 (number x)
+    ∷ row (fields (setWaiting x r)) 12 (number x)
+    ∷ row (fields (setPointer x r)) 13 (number x)
+    ∷ row (fields (setControl x r)) 14 (number x)
+    ∷ row (fields (setMask x r)) 15 (number x)
     ∷ []
 
 abbrev pub poolRows : Pool → List (List ℕ) → List ℕ → List Row

@@ -11,25 +11,33 @@ use lib.Seq.{getD-set-same, getD-set-other}
 use Rattle.rules.specs.Bits.{bit, lowByte, highByte, wordOf, wordAt}
 use Rattle.rules.specs.Lists.{firstEmpty, some?}
 use Rattle.rules.specs.Chip.{Chip, size, pagesAt, free}
+use Rattle.rules.specs.Fields.{setRx, inPool}
 use Rattle.rules.specs.Answers.{Effect, refuse}
-use Rattle.rules.specs.Mmu.{perform, allocate, removeAndRelease}
+use Rattle.rules.specs.Mmu.{perform, allocate, reset, removeAndRelease, resetTx, lowestNumber, due, settle, freed, giveBack}
 use Rattle.rules.specs.Data.{against, ifOpen}
 use Rattle.rules.specs.Crc.{crcBit, crcBits, crcFrom, crc, hash}
-use Rattle.rules.specs.Tests.{ascends, allBelow, apart, noneOwned, pagesGood, queueGood, queuesGood, numbersGood, formed, fit}
-use Rattle.rules.specs.Registers.{byte, word, read, write, misplaced, registerAt, lanesAt, taken, headOf, lowOnly, readRegister, writeRegister, access}
-use Rattle.rules.specs.Receive.{Frame, stored, countOf, needed, image, after}
+use Rattle.rules.specs.Tests.{ascends, allBelow, apart, noneOwned, pagesGood, queueGood, queuesGood, numbersGood, requestGood, formed, fit}
+use Rattle.rules.specs.Registers.{byte, word, read, write, misplaced, registerAt, lanesAt, taken, headOf, lowOnly, softReset, readRegister, writeRegister, access}
+use Rattle.rules.specs.Receive.{Frame, Arrival, stored, disabled, notAccepted, tooLong, bad, noRoom, countOf, needed, image, after}
 use Rattle.rules.specs.Send.{Send, good, autoRelease, tally, counted, nibble, sendHead}
 use Rattle.rules.specs.Step.{driver, serve, stepOf, runOf, history}
 
--- 80h leaves the pages of every packet but the RX head, whatever the packet number register says.
-pub head-alone : (c : Chip) (k : ℕ) (ks : List ℕ) → c .pool .rx ≡ k ∷ ks → (j : ℕ) → (j ≡ k → ⊥) → pagesAt (perform removeAndRelease c .chip) j ≡ pagesAt c j
-unfolding perform
-head-alone c k ks e j d = rw e (getD-set-other (c .pool .pages) k j [] [] d)
+-- Where nothing waits, pages that are given back are free, and that is all.
+none-waiting : (k : ℕ) (c : Chip) → c .regs .numbers .waiting ≡ 0 → giveBack k c ≡ freed k c
+unfolding settle due
+none-waiting k c e = rw e
 
--- 80h gives back every page of the RX head.
-pub head-released : (c : Chip) (k : ℕ) (ks : List ℕ) → c .pool .rx ≡ k ∷ ks → k < size c → pagesAt (perform removeAndRelease c .chip) k ≡ []
+-- 80h is of the RX head, whatever the packet number register says.
+head-given-back : (c : Chip) (k : ℕ) (ks : List ℕ) → c .pool .rx ≡ k ∷ ks → perform removeAndRelease c .chip ≡ giveBack k (inPool (setRx ks) c)
 unfolding perform
-head-released c k ks e h = rw e (getD-set-same (c .pool .pages) k [] [] h)
+head-given-back c k ks e = rw e
+
+-- So 80h leaves the pages of every other packet, and gives back every page of this one.
+pub head-alone : (c : Chip) (k : ℕ) (ks : List ℕ) → c .pool .rx ≡ k ∷ ks → c .regs .numbers .waiting ≡ 0 → (j : ℕ) → (j ≡ k → ⊥) → pagesAt (perform removeAndRelease c .chip) j ≡ pagesAt c j
+head-alone c k ks e none j d = rw (head-given-back c k ks e, none-waiting k (inPool (setRx ks) c) none) (getD-set-other (c .pool .pages) k j [] [] d)
+
+pub head-released : (c : Chip) (k : ℕ) (ks : List ℕ) → c .pool .rx ≡ k ∷ ks → c .regs .numbers .waiting ≡ 0 → k < size c → pagesAt (perform removeAndRelease c .chip) k ≡ []
+head-released c k ks e none h = rw (head-given-back c k ks e, none-waiting k (inPool (setRx ks) c) none) (getD-set-same (c .pool .pages) k [] [] h)
 
 -- A number below the lowest unallocated one is allocated.
 pub lowest : (ls : List (List ℕ)) (j : ℕ) → j < firstEmpty ls → some? (getD ls j []) ≡ true
@@ -45,6 +53,37 @@ pub result-has : (c : Chip) (n : ℕ) → n ≤ length (free c) → firstEmpty (
 unfolding perform
 result-has c n h k = rw (le-leb n (length (free c)) h) (getD-set-same (c .pool .pages) (firstEmpty (c .pool .pages)) (take n (free c)) [] k)
 
+-- An allocation that waits for as many pages as are free is granted: its packet is the lowest unallocated number and has the lowest of them, all that it waited for; and nothing waits any more.
+-- c is the chip once pages are free, d the chip after it.
+abbrev Granted : Chip → Chip → Type 0
+Granted c d = (d .regs .numbers .result ≡ lowestNumber c) × (d .regs .numbers .waiting ≡ 0) × (pagesAt d (lowestNumber c) ≡ take (c .regs .numbers .waiting) (free c))
+
+settles : (c : Chip) → due c ≡ true → lowestNumber c < size c → Granted c (settle c)
+unfolding settle
+settles c e k = rw e (refl, refl, getD-set-same (c .pool .pages) (lowestNumber c) (take (c .regs .numbers .waiting) (free c)) [] k)
+
+-- That is so in the step that gives pages back, and of these too.
+pub granted-at-once : (k : ℕ) (c : Chip) → due (freed k c) ≡ true → lowestNumber (freed k c) < size (freed k c) → Granted (freed k c) (giveBack k c)
+granted-at-once k c = settles (freed k c)
+
+-- Frames and E0h leave it; 40h and a soft reset drop it.
+pub frames-leave-it : (v : Arrival) (f : Frame) (c : Chip) → after v f c .regs .numbers ≡ c .regs .numbers
+unfolding after
+frames-leave-it stored f c = refl
+frames-leave-it disabled f c = refl
+frames-leave-it notAccepted f c = refl
+frames-leave-it tooLong f c = refl
+frames-leave-it bad f c = refl
+frames-leave-it noRoom f c = refl
+
+pub e0h-leaves-it : (c : Chip) → perform resetTx c .chip .regs ≡ c .regs
+unfolding perform
+e0h-leaves-it c = refl
+
+pub resets-drop-it : (c : Chip) → (perform reset c .chip .regs .numbers .waiting ≡ 0) × (softReset c .regs .numbers .waiting ≡ 0)
+unfolding perform
+resets-drop-it c = (refl, refl)
+
 -- A stored frame's packet has the lowest free pages, as many as it needs.
 pub stored-in-free : (f : Frame) (c : Chip) → firstEmpty (c .pool .pages) < size c → pagesAt (after stored f c) (firstEmpty (c .pool .pages)) ≡ take (needed (c .regs) (length (f .bytes))) (free c)
 unfolding after
@@ -52,12 +91,15 @@ stored-in-free f c k = getD-set-same (c .pool .pages) (firstEmpty (c .pool .page
 
 -- A sent packet leaves TX, released or not.
 pub sent-leaves-tx : (s : Send) (k : ℕ) (rest : List ℕ) (c : Chip) (out : List ℕ) → sendHead s k rest c out .chip .pool .tx ≡ rest
-unfolding sendHead
-sent-leaves-tx s k rest c out = either (autoRelease (good (c .regs .sending .tcr) (s .outcome)) (c .regs)) _ _ refl refl
+unfolding sendHead settle
+sent-leaves-tx s k rest c out = either (autoRelease (good (c .regs .sending .tcr) (s .outcome)) (c .regs)) _ _ (settled _ refl) refl
   where
     either : (b : Bool) (x y : Chip) → x .pool .tx ≡ rest → y .pool .tx ≡ rest → cond b x y .pool .tx ≡ rest
     either true x y p q = p
     either false x y p q = q
+
+    settled : (x : Chip) → x .pool .tx ≡ rest → settle x .pool .tx ≡ rest
+    settled x p = either (due x) _ x p p
 
 -- A word is made again of its low byte and its high byte.
 pub word-again : (x : ℕ) → x < 65536 → wordOf (lowByte x) (highByte x) ≡ x
@@ -82,7 +124,7 @@ failed-single s ecr a b = rw (a, b)
 -- The first value is not 0, and each answer is that of the chip after the inputs before it: the bank is read, then bank 2 is selected and its queue heads are read.
 pub answers-go-on : history (driver (read word 14) ∷ driver (write byte 14 2) ∷ driver (read word 4) ∷ []) .replies
     ≡ record { number = 0; value = 0x3300 } ∷ record { number = 0; value = 0 } ∷ record { number = 0; value = 0x8080 } ∷ []
-unfolding runOf stepOf fit formed pagesGood ascends allBelow noneOwned numbersGood queuesGood queueGood apart serve access misplaced bit registerAt lanesAt readRegister writeRegister taken lowOnly wordOf headOf
+unfolding runOf stepOf fit formed pagesGood ascends allBelow noneOwned numbersGood queuesGood queueGood requestGood apart serve access misplaced bit registerAt lanesAt readRegister writeRegister taken lowOnly wordOf headOf
 answers-go-on = refl
 
 -- Refusal 8 comes before 9 and 10.

@@ -33,6 +33,8 @@ pub record Numbers : Type 0 where
   -- bank 2, offsets 2 and 3: the packet number register, the allocation result
   pub packet : ℕ
   pub result : ℕ
+  -- of no bank: how many pages an allocation waits for, 0 where none waits (document 02, W1)
+  pub waiting : ℕ
 
 pub record Registers : Type 0 where
   pub sending : Sending
@@ -75,12 +77,12 @@ free c = freeBelow (size c) (c .pool .pages)
 abbrev pub allocated : ℕ → Chip → Bool
 allocated k c = some? (pagesAt c k)
 
--- "Reset values: .. all 0 but allocation result 80h and TX EMPTY set." A soft reset keeps the station address.
+-- "Reset values: .. all 0 but allocation result 80h and TX EMPTY set." A soft reset keeps the station address. No allocation waits: "40h and a soft reset drop it".
 abbrev pub resetRegisters : List ℕ → Registers
 resetRegisters station = record {
   sending = record { tcr = 0; ephsr = 0; ecr = 0; txEmpty = true };
   receiving = record { rcr = 0; reserved = 0; station = station; table = replicate 8 0; overrun = false };
-  numbers = record { bank = 0; packet = 0; result = 0x80 };
+  numbers = record { bank = 0; packet = 0; result = 0x80; waiting = 0 };
   pointer = 0;
   control = 0;
   mask = 0;

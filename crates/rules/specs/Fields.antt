@@ -42,13 +42,16 @@ abbrev pub setOverrun : Bool → Registers → Registers
 setOverrun x = inReceiving (λ s. record { rcr = s .rcr; reserved = s .reserved; station = s .station; table = s .table; overrun = x })
 
 abbrev pub setBank : ℕ → Registers → Registers
-setBank x = inNumbers (λ s. record { bank = x; packet = s .packet; result = s .result })
+setBank x = inNumbers (λ s. record { bank = x; packet = s .packet; result = s .result; waiting = s .waiting })
 
 abbrev pub setPacket : ℕ → Registers → Registers
-setPacket x = inNumbers (λ s. record { bank = s .bank; packet = x; result = s .result })
+setPacket x = inNumbers (λ s. record { bank = s .bank; packet = x; result = s .result; waiting = s .waiting })
 
 abbrev pub setResult : ℕ → Registers → Registers
-setResult x = inNumbers (λ s. record { bank = s .bank; packet = s .packet; result = x })
+setResult x = inNumbers (λ s. record { bank = s .bank; packet = s .packet; result = x; waiting = s .waiting })
+
+abbrev pub setWaiting : ℕ → Registers → Registers
+setWaiting x = inNumbers (λ s. record { bank = s .bank; packet = s .packet; result = s .result; waiting = x })
 
 abbrev pub setPointer : ℕ → Registers → Registers
 setPointer x r = record { sending = r .sending; receiving = r .receiving; numbers = r .numbers; pointer = x; control = r .control; mask = r .mask }

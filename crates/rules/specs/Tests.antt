@@ -5,7 +5,7 @@ use mathlib.Core.List.{List, [], _∷_}
 use Prim.Native.Nat.{ℕ, _*_}
 use lib.Dec.{eqb, leb, ltb}
 use lib.ListN.{length, getD}
-use Rattle.rules.specs.Lists.{member, some?, owned}
+use Rattle.rules.specs.Lists.{member, some?, owned, freeBelow}
 use Rattle.rules.specs.Chip.{Numbers, Pool, Chip}
 
 unfoldable pub above : ℕ → List ℕ → Bool
@@ -46,8 +46,13 @@ queuesGood n q =
 unfoldable pub numbersGood : ℕ → Numbers → Bool
 numbersGood n r = ltb (r .bank) 8 && ltb (r .packet) 64 && (ltb (r .result) n || eqb (r .result) 0x80)
 
+unfoldable pub requestGood : ℕ → Numbers → Bool
+requestGood freePages r = eqb (r .waiting) 0 || (leb (r .waiting) 8 && ltb freePages (r .waiting) && eqb (r .result) 0x80)
+
 unfoldable pub formed : ℕ → Chip → Bool
-formed n c = eqb (length (c .pool .pages)) n && pagesGood n (c .pool .pages) && numbersGood n (c .regs .numbers) && queuesGood n (c .pool)
+formed n c =
+    eqb (length (c .pool .pages)) n && pagesGood n (c .pool .pages) && numbersGood n (c .regs .numbers) && queuesGood n (c .pool)
+    && requestGood (length (freeBelow n (c .pool .pages))) (c .regs .numbers)
 
 -- refusal 16: the memory's length, and a state that is well formed
 unfoldable pub fit : ℕ → Chip → Bool

@@ -1,11 +1,11 @@
--- Document 01: "A chip state is well formed exactly when ..", a field for each clause. Stated for n pages and packets; the chip of document 01 has 24.
+-- Document 01: "A chip state is well formed exactly when ..", a field for each clause; and document 02, W1. Stated for n pages and packets; the chip of document 01 has 24.
 use mathlib.Core.Bool.{true, false}
 use mathlib.Core.Path.{_≡_}
 use mathlib.Core.Logic.{_⊎_}
 use mathlib.Core.List.{List, [], _∷_}
 use Prim.Native.Nat.{ℕ, _<_, _≤_}
 use lib.ListN.{length, getD}
-use Rattle.rules.specs.Lists.{member, some?}
+use Rattle.rules.specs.Lists.{member, some?, freeBelow}
 use Rattle.rules.specs.Chip.{Numbers, Registers, Pool, Chip}
 
 -- each number is above the one before it, and the first above x
@@ -55,6 +55,16 @@ pub record GoodNumbers (n : ℕ) (r : Numbers) : Type 0 where
   -- "the allocation result 0 to 23 or 80h"
   pub resultGood : (r .result < n) ⊎ (r .result ≡ 0x80)
 
+-- an allocation that waits: "for 1 to 8 pages, more than are free, with the result at 80h" (so at least 1)
+pub record Waits (freePages waiting result : ℕ) : Type 0 where
+  pub few : waiting ≤ 8
+  pub short : freePages < waiting
+  pub unanswered : result ≡ 0x80
+
+-- none waits, or one that may
+abbrev pub GoodRequest : ℕ → Numbers → Type 0
+GoodRequest freePages r = (r .waiting ≡ 0) ⊎ Waits freePages (r .waiting) (r .result)
+
 -- all clauses, over what they speak of: a step that leaves these leaves the chip well formed
 pub record Clauses (n : ℕ) (r : Numbers) (q : Pool) : Type 0 where
   -- "Packets are numbered 0 to 23": a page list for each
@@ -62,6 +72,8 @@ pub record Clauses (n : ℕ) (r : Numbers) (q : Pool) : Type 0 where
   pub pages : GoodPages n (q .pages)
   pub numbers : GoodNumbers n r
   pub queues : GoodQueues n (q .pages) (q .rx) (q .tx) (q .completion)
+  -- "A state with a waiting request is well formed only if .."
+  pub request : GoodRequest (length (freeBelow n (q .pages))) r
 
 -- the clauses of registers and pool; of a chip with n pages; of the chip of document 01
 abbrev pub Formed : ℕ → Registers → Pool → Type 0

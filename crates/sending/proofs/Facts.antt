@@ -13,6 +13,7 @@ use Rattle.rules.specs.Chip.{Chip}
 use Rattle.rules.specs.Fields.{setTx, inRegisters, inPool}
 use Rattle.rules.specs.Answers.{Turn, refusal, refused}
 use Rattle.rules.specs.Packet.{getBytes, putBytes}
+use Rattle.rules.specs.Mmu.{giveBack}
 use Rattle.rules.specs.Send.{Send, outcomeBits, addressBits, nibbles, anyAt15, tally, newEcr, newEphsr, sentRegisters, retire, statusWritten}
 use Rattle.bits.specs.Laws.{bit-set, bit-set-other}
 use Rattle.state.specs.declared.Answer.{Answer}
@@ -21,7 +22,7 @@ use Rattle.state.specs.View.{word, registersIn, figures, queueIn, view, Latches
 use Rattle.state.specs.Promise.{QueuesIn, Sound, Sets, sets-both, sets-as, sets-chip}
 use Rattle.state.specs.Stores.{store-tcr, store-ephsr, store-ecr, store-latches}
 use Rattle.pool.specs.Queues.{Rejoins, rejoins-chip}
-use Rattle.pool.specs.Pages.{Repages, repages-chip, repages-sound}
+use Rattle.pool.specs.Pages.{Alters, alters-sound}
 use Rattle.sending.specs.Sends.{Sends, sentBy, headGone, Sent, Retires, Completes}
 
 -- A latch stays where nothing sets it.
@@ -104,9 +105,9 @@ module _ {isGood : Bool} {s : Send} {bits : ℕ} {w q w′ q′ : List ℕ} (t :
     sound = r .sound;
   }
 
--- The packet's pages are given back, and the rest stays.
-pub gives-back : {released : Bool} {k : ℕ} {w s q w′ s′ : List ℕ} → released ≡ true → QueuesIn (figures w) q → Repages (λ ls. set ls k []) w s w′ s′ → Retires released k w s q w′ s′ q
-gives-back {q = q} e o a = rw e (record { chip = repages-chip a q; sound = repages-sound a q o })
+-- The packet's pages are given back, and the queues stay.
+pub gives-back : {released : Bool} {k : ℕ} {w s q w′ s′ : List ℕ} → released ≡ true → QueuesIn (figures w) q → Alters (giveBack k) w s w′ s′ → Retires released k w s q w′ s′ q
+gives-back {q = q} e o a = rw e (record { chip = a .chip q; sound = alters-sound a q o })
 
 -- A refusal: nothing changes.
 pub refuses : {t : Turn} {a : Answer} {w s q mem out : List ℕ} (n : ℕ) → Sound w s q → t ≡ refused n (view w s q mem) out → replyOf a ≡ refusal n → Sends t a w s q mem out

@@ -5,7 +5,7 @@ use state::flags;
 ghost use mathlib.Core.Path.{_≡_};
 ghost use mathlib.Core.Bool.{not, _&&_, false};
 ghost use mathlib.Core.List.{map};
-ghost use Prim.Native.Nat.{_<_};
+ghost use Prim.Native.Nat.{_≤_, _<_};
 ghost use lib.Dec.{leb};
 ghost use Rattle.rules.specs.Bits.{bit};
 ghost use Rattle.rules.specs.WellFormed.{GoodPages};
@@ -45,7 +45,7 @@ pub fn retire(
     packet: Packet,
     released: bool,
 )
-    requires { ⌜ (packet .0 < 24) × Sound (now words) (now sets) (now queues) × GoodPages 24 (map pagesOf (now sets)) × (released ≡ false → word (now words) 9 < 24) ⌝ }
+    requires { ⌜ (packet .0 < 24) × Sound (now words) (now sets) (now queues) × GoodPages 24 (map pagesOf (now sets)) × (released ≡ false → word (now words) 9 < 24) × (word (now words) 23 ≤ 8) ⌝ }
     ensures { λ _. ⌜ Retires released (packet .0) (now (words .entry)) (now (sets .entry)) (now (queues .entry)) (now (words .exit)) (now (sets .exit)) (now (queues .exit)) ⌝ }
 {
     if released {

@@ -1,12 +1,14 @@
--- Records with one wrong figure, computed: none is in order, so every entry that promises `Answers` gives 16. RX has packet 0 with pages 0 and 1, TX packet 17 with page 2.
-use mathlib.Core.Path.{_≡_, refl, ap}
+-- Records with one wrong figure, and with an allocation that may not wait, computed: none is in order, so every entry that promises `Answers` gives 16.
+-- RX has packet 0 with pages 0 and 1, TX packet 17 with page 2.
+use mathlib.Core.Path.{_≡_, refl, ap, sym, _∙_}
+use mathlib.Core.Bool.{true, false, true≢false}
 use mathlib.Core.List.{List, [], _∷_, _++_}
 use Prim.Native.Nat.{ℕ, _^_, _<_}
 use native.Mathlib.Omega.{arith}
 use lib.ListN.{set, replicate}
 use Rattle.rules.specs.Bits.{bit, flag, wordOf}
 use Rattle.rules.specs.Lists.{member, some?, owned, unless, freeBelow}
-use Rattle.rules.specs.Tests.{above, ascends, allBelow, apart, noneOwned, pagesGood, queueGood, queuesGood, numbersGood, formed}
+use Rattle.rules.specs.Tests.{above, ascends, allBelow, apart, noneOwned, pagesGood, queueGood, queuesGood, numbersGood, requestGood, formed}
 use Rattle.rules.specs.Step.{Input}
 use Rattle.lists.specs.Each.{each-at}
 use Rattle.wellformed.specs.Fit.{below-decides, formed-decides}
@@ -49,13 +51,13 @@ small i = each-at (λ x. x < 2 ^ 32) sets i 0 (below-decides (2 ^ 32) sets .soun
 
 -- and it is in order
 pub ready : Ready words sets queues
-unfolding formed pagesGood ascends above allBelow noneOwned queuesGood queueGood apart numbersGood some? flag pagesOf bitsBelow bit freeBelow owned member unless wordOf setOf
+unfolding formed pagesGood ascends above allBelow noneOwned queuesGood queueGood apart numbersGood requestGood some? flag pagesOf bitsBelow bit freeBelow owned member unless wordOf setOf
 ready = record {
   sound = record {
     kept = record {
       whole = refl;
       fixed = record { bankHigh = refl; reservedHigh = refl; latched = refl; maskLow = refl };
-      blank = record { none15 = refl; none16 = refl; none18 = refl; none20 = refl; none21 = refl; none23 = refl };
+      blank = record { none15 = refl; none16 = refl; none18 = refl; none20 = refl; none21 = refl };
     };
     queues = record {
       long = refl;
@@ -70,14 +72,21 @@ ready = record {
   well = formed-decides 24 (view words sets queues []) .sound refl;
 }
 
--- The record with word `at` another one gets 16, whatever the input and whatever the memory.
-abbrev Gets16 : ℕ → ℕ → Type 0
-Gets16 at x =
+-- A record gets 16, whatever the input and whatever the memory.
+abbrev Refused : List ℕ → List ℕ → List ℕ → Type 0
+Refused w s q =
     (i : Input) (mem : List ℕ) (y : Returned) (mem′ out′ : List ℕ)
-    → Answers i (record { words = set words at x }) (record { sets = sets }) (record { slots = queues }) mem y mem′ out′ → y .answer ≡ Damaged
+    → Answers i (record { words = w }) (record { sets = s }) (record { slots = q }) mem y mem′ out′ → y .answer ≡ Damaged
+
+gets-16 : (w s q : List ℕ) → (Ready w s q → ⊥) → Refused w s q
+gets-16 w s q n i mem y mem′ out′ a = ap (λ (z : Returned). z .answer) (a .broken (λ o. n (o .ready)) .same)
+
+-- So does the record with word `at` another one.
+abbrev Gets16 : ℕ → ℕ → Type 0
+Gets16 at x = Refused (set words at x) sets queues
 
 refused : (at x : ℕ) → (Ready (set words at x) sets queues → ⊥) → Gets16 at x
-refused at x n i mem y mem′ out′ a = ap (λ (z : Returned). z .answer) (a .broken (λ o. n (o .ready)) .same)
+refused at x n = gets-16 (set words at x) sets queues n
 
 -- one page less is free, and one more; or MIR does not say that there are 24
 pub one-free-less : Gets16 4 0x1418
@@ -114,3 +123,33 @@ tx-bit-clear = refused 31 0 (λ o. let e : _≡_ {A = ℕ} 0 2 = o .sound .queue
 pub tx-bit-set : Gets16 30 1
 unfolding setOf
 tx-bit-set = refused 30 1 (λ o. let e : _≡_ {A = ℕ} 1 0 = o .sound .queues .inTx .lower in omega (arith, e))
+
+-- What the tests of the rules refute is not in order.
+not-formed : (w s q : List ℕ) → formed 24 (view w s q []) ≡ false → Ready w s q → ⊥
+not-formed w s q e o = true≢false (sym (formed-decides 24 (view w s q []) .complete (o .well)) ∙ e)
+
+-- an allocation waits for 8 pages although 21 are free; for 22, more than are free but also more than any command asks for
+pub waits-in-vain : Gets16 23 8
+unfolding formed pagesGood ascends above allBelow noneOwned queuesGood queueGood apart numbersGood requestGood some? flag pagesOf bitsBelow bit freeBelow owned member unless wordOf setOf
+waits-in-vain = refused 23 8 (not-formed (set words 23 8) sets queues refl)
+
+pub waits-for-22 : Gets16 23 22
+unfolding formed pagesGood ascends above allBelow noneOwned queuesGood queueGood apart numbersGood requestGood some? flag pagesOf bitsBelow bit freeBelow owned member unless wordOf setOf
+waits-for-22 = refused 23 22 (not-formed (set words 23 22) sets queues refl)
+
+-- Packets 0, 1 and 2 have all pages, and an allocation waits for one: with the result at 80h that may be, and with another it may not.
+abbrev fullWords : ℕ → List ℕ
+fullWords packet =
+    0 ∷ 0 ∷ 0 ∷ 0 ∷ 0x0018 ∷ 0x3300 ∷ 0 ∷ 0x3300 ∷ 0 ∷ 0 ∷ 0 ∷ 0 ∷ 0 ∷ 4 ∷ 0 ∷ 0
+    ∷ 0 ∷ packet ∷ 0 ∷ 0 ∷ 0 ∷ 0 ∷ 0 ∷ 1 ∷ 0 ∷ 0 ∷ 0 ∷ 0 ∷ 0 ∷ 0 ∷ 0 ∷ 0 ∷ []
+
+abbrev fullSets : List ℕ
+fullSets = 0xff ∷ 0xff00 ∷ 0xff0000 ∷ replicate 21 0
+
+pub may-wait : formed 24 (view (fullWords 0x8000) fullSets (replicate 72 0) []) ≡ true
+unfolding formed pagesGood ascends above allBelow noneOwned queuesGood queueGood apart numbersGood requestGood some? flag pagesOf bitsBelow bit freeBelow owned member unless wordOf setOf
+may-wait = refl
+
+pub waits-with-a-result : Refused (fullWords 0x0200) fullSets (replicate 72 0)
+unfolding formed pagesGood ascends above allBelow noneOwned queuesGood queueGood apart numbersGood requestGood some? flag pagesOf bitsBelow bit freeBelow owned member unless wordOf setOf
+waits-with-a-result = gets-16 (fullWords 0x0200) fullSets (replicate 72 0) (not-formed (fullWords 0x0200) fullSets (replicate 72 0) refl)

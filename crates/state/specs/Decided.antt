@@ -38,20 +38,19 @@ fixed? bank reserved latches mask =
     (λ b. asks (λ x. x .latched) (ℕ-discrete latches (4 * flag (bit 2 latches) + 16 * flag (bit 4 latches)))
     (λ c. asks (λ x. x .maskLow) (ℕ-discrete (mask % 256) 0) (λ d. yes (record { bankHigh = a; reservedHigh = b; latched = c; maskLow = d })))))
 
-blank? : (w15 w16 w18 w20 w21 w23 : ℕ) → Dec (Blank w15 w16 w18 w20 w21 w23)
-blank? w15 w16 w18 w20 w21 w23 =
+blank? : (w15 w16 w18 w20 w21 : ℕ) → Dec (Blank w15 w16 w18 w20 w21)
+blank? w15 w16 w18 w20 w21 =
     asks (λ x. x .none15) (ℕ-discrete w15 0)
     (λ a. asks (λ x. x .none16) (ℕ-discrete w16 0)
     (λ b. asks (λ x. x .none18) (ℕ-discrete w18 0)
     (λ c. asks (λ x. x .none20) (ℕ-discrete w20 0)
-    (λ d. asks (λ x. x .none21) (ℕ-discrete w21 0)
-    (λ e. asks (λ x. x .none23) (ℕ-discrete w23 0) (λ f. yes (record { none15 = a; none16 = b; none18 = c; none20 = d; none21 = e; none23 = f })))))))
+    (λ d. asks (λ x. x .none21) (ℕ-discrete w21 0) (λ e. yes (record { none15 = a; none16 = b; none18 = c; none20 = d; none21 = e }))))))
 
 kept? : (w : List ℕ) → Dec (Kept w)
 kept? w =
     asks (λ x. x .whole) (ℕ-discrete (length w) 32)
     (λ a. asks (λ x. x .fixed) (fixed? (word w 7) (word w 5) (word w 13) (word w 22))
-    (λ b. asks (λ x. x .blank) (blank? (word w 15) (word w 16) (word w 18) (word w 20) (word w 21) (word w 23)) (λ c. yes (record { whole = a; fixed = b; blank = c }))))
+    (λ b. asks (λ x. x .blank) (blank? (word w 15) (word w 16) (word w 18) (word w 20) (word w 21)) (λ c. yes (record { whole = a; fixed = b; blank = c }))))
 
 -- The queues.
 slots? : (p : List ℕ) (n : ℕ) (l : List ℕ) → Dec (Slots p n l)

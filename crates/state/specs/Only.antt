@@ -58,7 +58,7 @@ wordsWith r c =
     ∷ 0
     ∷ 0
     ∷ wordOf 0 (r .mask)
-    ∷ 0
+    ∷ r .numbers .waiting
     ∷ wordAt 0 (r .receiving .table)
     ∷ wordAt 2 (r .receiving .table)
     ∷ wordAt 4 (r .receiving .table)
@@ -106,7 +106,7 @@ unfolding Written wordAt
 words-known w k = written-out 32 Known (λ a b c d e f g h i j k l m n o p q r s t u v x y z a2 b2 c2 d2 e2 f2 g2 fix blank.
     λ ι. a ∷ b ∷ c ∷ d ∷ e ∷ fixed-high f (fix .reservedHigh) ι ∷ g ∷ fixed-high h (omega (arith, fix .bankHigh)) ι ∷ i ∷ j
     ∷ halves k ι ∷ halves l ι ∷ halves m ι ∷ fix .latched ι ∷ o ∷ blank .none15 ι ∷ blank .none16 ι ∷ halves r ι ∷ blank .none18 ι ∷ t ∷ blank .none20 ι ∷ blank .none21 ι
-    ∷ fixed-low x (fix .maskLow) ι ∷ blank .none23 ι ∷ halves z ι ∷ halves a2 ι ∷ halves b2 ι ∷ halves c2 ι ∷ d2 ∷ e2 ∷ f2 ∷ g2 ∷ []) w (k .whole) (k .fixed) (k .blank)
+    ∷ fixed-low x (fix .maskLow) ι ∷ y ∷ halves z ι ∷ halves a2 ι ∷ halves b2 ι ∷ halves c2 ι ∷ d2 ∷ e2 ∷ f2 ∷ g2 ∷ []) w (k .whole) (k .fixed) (k .blank)
 
 pub words-once : {w w′ : List ℕ} → Kept w → Kept w′ → registersIn w ≡ registersIn w′ → figures w ≡ figures w′ → w ≡ w′
 words-once {w} {w′} k k′ r f = words-known w k ∙ ap₂ wordsWith r f ∙ sym (words-known w′ k′)

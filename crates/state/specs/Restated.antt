@@ -14,7 +14,7 @@ use lib.Pow.{pow-mono, shr-shr}
 use lib.Seq.{length-take-le, getD-take, getD-drop, getD-append-add, ext-getD}
 use Rattle.rules.specs.Bits.{bit, flag, wordOf}
 use Rattle.rules.specs.Lists.{member, some?, freeBelow}
-use Rattle.rules.specs.WellFormed.{Distinct, GoodPages, GoodQueues, GoodNumbers}
+use Rattle.rules.specs.WellFormed.{Distinct, GoodPages, GoodQueues, GoodNumbers, GoodRequest}
 use Rattle.lists.specs.Facts.{if-not, member-at}
 use Rattle.lists.specs.Each.{Each, each-member, member-each}
 use Rattle.wellformed.specs.Count.{total, free-and-total}
@@ -30,7 +30,7 @@ use Rattle.queues.specs.Parts.{slots, part-long}
 use Rattle.state.specs.View.{word, registersIn, queueIn, Latches, Kept}
 use Rattle.state.specs.Promise.{Halves, Small, Ready}
 use Rattle.state.specs.Counted.{whole, halves}
-use Rattle.state.specs.WellFormed.{SetsFormed, QueuesFormed, NumbersFormed, FixedBytes, FiguresFormed, RecordFormed, slotAt, pagesIn}
+use Rattle.state.specs.WellFormed.{SetsFormed, QueuesFormed, NumbersFormed, RequestFormed, FixedBytes, FiguresFormed, RecordFormed, slotAt, pagesIn}
 
 -- The latches: no bit but 2 and 4.
 power-above : (n : ℕ) → n < 2 ^ n
@@ -304,6 +304,14 @@ words-restated w = (
   ),
 )
 
+-- The request, beside a MIR that counts the free pages.
+pub request-restated : (w : List ℕ) (n : ℕ) → word w 4 ≡ wordOf 24 n → RequestFormed (word w 4) (word w 17) (word w 23) ↔ GoodRequest n (registersIn w .numbers)
+unfolding wordOf
+request-restated w n e = (
+  λ f. ⊎-elim (λ none. inl none) (λ p. inr (record { few = p .0; short = omega (arith, e, p .1); unanswered = p .2 })) f,
+  λ g. ⊎-elim (λ none. inl none) (λ p. inr (p .few, omega (arith, e, p .short), p .unanswered)) g,
+)
+
 -- So the record is as it says here exactly where the public entries take it for a sound one of a well-formed chip: of words that are u16 numbers.
 pub restated : (w s q : List ℕ) → ((i : ℕ) → word w i < 65536) → RecordFormed w s q ↔ Ready w s q
 restated w s q typed = (
@@ -318,7 +326,7 @@ restated w s q typed = (
           queues = record { long = queues .0 .long; rx = queues .0 .rx; tx = queues .0 .tx; completion = queues .0 .completion; inRx = figures .1; inTx = figures .2 };
           sets = record { many = pages .0; free = figures .0; small = pages .1 };
         };
-        well = record { count = lists-length s ∙ pages .0; pages = pages .2; numbers = words .1; queues = queues .1 };
+        well = record { count = lists-length s ∙ pages .0; pages = pages .2; numbers = words .1; queues = queues .1; request = request-restated w _ (figures .0) .0 (f .request) };
       },
   λ r.
       let words = words-restated w .1 (r .sound .kept, r .well .numbers) in
@@ -329,5 +337,6 @@ restated w s q typed = (
         sets = sets-restated s .1 (sets .many, sets .small, r .well .pages);
         queues = queues-as-bytes s (sets .small) (word w 6) (word w 8) (word w 9) q (record { long = r .sound .queues .long; rx = r .sound .queues .rx; tx = r .sound .queues .tx; completion = r .sound .queues .completion }, r .well .queues);
         figures = count-as-figures w s q typed (sets .small) (sets .many) (r .well .pages) (r .well .queues) (sets .free) (r .sound .queues .inRx) (r .sound .queues .inTx);
+        request = request-restated w _ (sets .free) .1 (r .well .request);
       },
 )

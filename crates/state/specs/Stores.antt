@@ -7,7 +7,7 @@ use native.Mathlib.Omega.{arith}
 use lib.ListN.{set}
 use Rattle.rules.specs.Bits.{bit, lowByte, highByte}
 use Rattle.rules.specs.Chip.{Registers}
-use Rattle.rules.specs.Fields.{setTcr, setEphsr, setRcr, setEcr, setReserved, setStation, setControl, setPacket, setResult, setPointer, setMask, setTable, setBank, setTxEmpty, setOverrun}
+use Rattle.rules.specs.Fields.{setTcr, setEphsr, setRcr, setEcr, setReserved, setStation, setControl, setPacket, setResult, setWaiting, setPointer, setMask, setTable, setBank, setTxEmpty, setOverrun}
 use Rattle.rules.specs.Registers.{Lanes, low, high, both, mergedAt}
 use Rattle.state.specs.Meaning.{lowAfter, highAfter, Joined}
 use Rattle.state.specs.View.{word, registersIn, figures, withRx, withTx, withCompletion, withMir, noFigures, FixedIn, BlankIn, Latches, Kept}
@@ -51,6 +51,11 @@ store-control y w k = stored 14 y (setControl y) (λ old. Unit {0}) (λ a b c d 
 pub store-pointer : (y : ℕ) (w : List ℕ) → Kept w → Sets (setPointer y) w (set w 19 y)
 unfolding Written
 store-pointer y w k = stored 19 y (setPointer y) (λ old. Unit {0}) (λ a b c d e f g h i j k l m n o p q r s t u x y z a2 b2 c2 d2 e2 f2 g2 h2 fix blank right.
+    record { regs = refl; still = refl; kept = record { whole = refl; fixed = fix; blank = blank } }) w k tt
+
+pub store-waiting : (y : ℕ) (w : List ℕ) → Kept w → Sets (setWaiting y) w (set w 23 y)
+unfolding Written
+store-waiting y w k = stored 23 y (setWaiting y) (λ old. Unit {0}) (λ a b c d e f g h i j k l m n o p q r s t u x y z a2 b2 c2 d2 e2 f2 g2 h2 fix blank right.
     record { regs = refl; still = refl; kept = record { whole = refl; fixed = fix; blank = blank } }) w k tt
 
 -- The low byte, beside a high byte that stays: pages reserved for transmit, the packet number, the bank.

@@ -25,7 +25,7 @@ registersIn w = record {
     table = bytes (word w 24) (bytes (word w 25) (bytes (word w 26) (bytes (word w 27) [])));
     overrun = bit 4 (word w 13);
   };
-  numbers = record { bank = word w 7 % 256; packet = word w 17 % 256; result = word w 17 / 256 };
+  numbers = record { bank = word w 7 % 256; packet = word w 17 % 256; result = word w 17 / 256; waiting = word w 23 };
   pointer = word w 19;
   control = word w 14;
   mask = word w 22 / 256;
@@ -89,16 +89,15 @@ abbrev pub FixedIn : List ℕ → Type 0
 FixedIn w = Fixed (word w 7) (word w 5) (word w 13) (word w 22)
 
 -- and the words that hold nothing: those of command, heads and data, which a read finds, and those of no register, figure or latch
-pub record Blank (w15 w16 w18 w20 w21 w23 : ℕ) : Type 0 where
+pub record Blank (w15 w16 w18 w20 w21 : ℕ) : Type 0 where
   pub none15 : w15 ≡ 0
   pub none16 : w16 ≡ 0
   pub none18 : w18 ≡ 0
   pub none20 : w20 ≡ 0
   pub none21 : w21 ≡ 0
-  pub none23 : w23 ≡ 0
 
 abbrev pub BlankIn : List ℕ → Type 0
-BlankIn w = Blank (word w 15) (word w 16) (word w 18) (word w 20) (word w 21) (word w 23)
+BlankIn w = Blank (word w 15) (word w 16) (word w 18) (word w 20) (word w 21)
 
 -- 32 words, with the fixed bytes as they must be
 pub record Kept (w : List ℕ) : Type 0 where

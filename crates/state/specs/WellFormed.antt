@@ -1,4 +1,4 @@
--- Document 01's "A chip state is well formed exactly when .." said of the lent record itself: 32 words w, 24 page sets s (bit p for page p) and 72 bytes of queues q.
+-- Document 01's "A chip state is well formed exactly when ..", and document 02's W1, said of the lent record itself: 32 words w, 24 page sets s (bit p for page p) and 72 bytes of queues q.
 -- A field for each clause, and for what the record has beside the chip. `Restated.restated`: this is what the public entries ask (`Ready`).
 use mathlib.Core.Path.{_≡_}
 use mathlib.Core.Bool.{true}
@@ -55,6 +55,10 @@ pub record NumbersFormed (bank packet : ℕ) : Type 0 where
   -- "the allocation result 0 to 23 or 80h"
   pub resultGood : (packet / 256 < 24) ⊎ (packet / 256 ≡ 0x80)
 
+-- "A state with a waiting request is well formed only if it is for 1 to 8 pages, more than are free, with the result at 80h" (W1): none waits, or one that may.
+abbrev pub RequestFormed : ℕ → ℕ → ℕ → Type 0
+RequestFormed mir packet waiting = (waiting ≡ 0) ⊎ ((waiting ≤ 8) × (mir / 256 < waiting) × (packet / 256 ≡ 0x80))
+
 -- What no register has is fixed.
 pub record FixedBytes (w : List ℕ) : Type 0 where
   pub whole : length w ≡ 32
@@ -89,3 +93,4 @@ pub record RecordFormed (w s q : List ℕ) : Type 0 where
   pub sets : SetsFormed s
   pub queues : QueuesFormed (word w 6) (word w 8) (word w 9) s q
   pub figures : FiguresFormed w s q
+  pub request : RequestFormed (word w 4) (word w 17) (word w 23)

@@ -40,6 +40,7 @@ pub use places::TABLE_3;
 pub use places::TCR;
 pub use places::TX;
 pub use places::TX_COUNT;
+pub use places::WAITING;
 ghost use mathlib.Core.Path.{_≡_};
 ghost use Rattle.state.specs.Meaning.{replyOf};
 

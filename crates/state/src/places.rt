@@ -1,5 +1,5 @@
 // Where in the lent state things stand.
-// A register's word stands at bank * 8 + offset / 2, as a word read gives it. What no word read gives (the queues' counts and bits, latches) stands at places of no register.
+// A register's word stands at bank * 8 + offset / 2, as a word read gives it. What no word read gives (the queues' counts and bits, latches, the allocation that waits) stands at places of no register.
 pub const TCR: usize = 0;
 
 pub const EPHSR: usize = 1;
@@ -51,6 +51,9 @@ pub const POINTER: usize = 19;
 
 // the mask, in the high byte; interrupt status is found for each read: the low byte itself is 0
 pub const INTERRUPT: usize = 22;
+
+// how many pages an allocation waits for, 0 where none waits
+pub const WAITING: usize = 23;
 
 // four words: the multicast table
 pub const TABLE: usize = 24;

@@ -10,7 +10,7 @@ use Rattle.rules.specs.Lists.{member}
 use Rattle.rules.specs.Chip.{Chip, pagesAt, allocated}
 use Rattle.rules.specs.Fields.{inRegisters}
 use Rattle.rules.specs.Answers.{Effect, Turn, doneWith, refuse, refused}
-use Rattle.rules.specs.Mmu.{queued, ifIdle, ifHead}
+use Rattle.rules.specs.Mmu.{grant, due, settle, queued, ifIdle, ifHead}
 use Rattle.rules.specs.Data.{rcv, against, oddFixed, past, ifPacket, ifOpen, readData}
 use Rattle.rules.specs.Registers.{Lanes, low, high, both, Register, TCR, EPHSR, RCR, ECR, MIR, RESERVED, STATION, CONTROL, COMMAND, PACKET, HEADS, POINTER, DATA, INTERRUPT, TABLE, BANK, UNUSED, ABSENT, width, clearEcr, lowOnly, readRegister}
 use Rattle.rules.specs.Send.{Send, inLimits, usable, byteCount, noPlace, sendHead, ifSendable, byTxHead, finish}
@@ -31,6 +31,11 @@ pick-by P false p q = q refl
 pub pick-unless : {A : Type 0} (P : A → Type 0) (b : Bool) {x y : A} → (b ≡ false → P x) → (b ≡ true → P y) → P (cond (not b) x y)
 pick-unless P true p q = q refl
 pick-unless P false p q = p refl
+
+-- What waits is granted, or all stays.
+pub by-settle : (P : Chip → Type 0) (c : Chip) → (due c ≡ true → P (grant (c .regs .numbers .waiting) c)) → (due c ≡ false → P c) → P (settle c)
+unfolding settle
+by-settle P c g s = pick-by P (due c) g s
 
 -- A property of effects: each refusal that a chain of tests may give has it, and what is done.
 module _ (c : Chip) (P : Effect → Type 0) where

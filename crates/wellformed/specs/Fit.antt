@@ -6,12 +6,12 @@ use Prim.Native.Nat.{ℕ, zero, suc, _*_, _≤_, _<_}
 use native.Mathlib.Omega.{arith}
 use lib.Dec.{leb}
 use lib.ListN.{length, getD}
-use Rattle.rules.specs.Lists.{member, some?, owned}
+use Rattle.rules.specs.Lists.{member, some?, owned, freeBelow}
 use Rattle.rules.specs.Chip.{Numbers, Pool, Chip}
 use Rattle.rules.specs.Answers.{refused}
 use Rattle.rules.specs.Step.{Input, lent, serve, stepOf}
-use Rattle.rules.specs.WellFormed.{Above, Ascending, Distinct, GoodPages, GoodQueues, GoodNumbers, FormedAt}
-use Rattle.rules.specs.Tests.{above, ascends, allBelow, apart, noneOwned, pagesGood, queueGood, queuesGood, numbersGood, formed, fit}
+use Rattle.rules.specs.WellFormed.{Above, Ascending, Distinct, GoodPages, GoodQueues, GoodNumbers, GoodRequest, FormedAt}
+use Rattle.rules.specs.Tests.{above, ascends, allBelow, apart, noneOwned, pagesGood, queueGood, queuesGood, numbersGood, requestGood, formed, fit}
 use Rattle.lists.specs.Facts.{if-not, Decides, agrees, always, is-true, is-false, _and_, _or_, lt-decides, le-decides, eq-decides, nobody}
 use Rattle.lists.specs.Each.{Each, each-member, member-each, members}
 use Rattle.lists.specs.Owned.{owned-none, owned-in}
@@ -141,13 +141,21 @@ numbers-decides n r =
     agrees (lt-decides (r .bank) 8 and lt-decides (r .packet) 64 and (lt-decides (r .result) n or eq-decides (r .result) 0x80))
     (λ w. record { bankSmall = w .0 .0; packetSmall = w .0 .1; resultGood = w .1 }) (λ g. ((g .bankSmall, g .packetSmall), g .resultGood))
 
+pub request-decides : (freePages : ℕ) (r : Numbers) → Decides (requestGood freePages r) (GoodRequest freePages r)
+unfolding requestGood
+request-decides freePages r =
+    eq-decides (r .waiting) 0
+    or agrees (le-decides (r .waiting) 8 and lt-decides freePages (r .waiting) and eq-decides (r .result) 0x80)
+    (λ w. record { few = w .0 .0; short = w .0 .1; unanswered = w .1 }) (λ g. ((g .few, g .short), g .unanswered))
+
 pub formed-decides : (n : ℕ) (c : Chip) → Decides (formed n c) (FormedAt n c)
 unfolding formed
 formed-decides n c =
     agrees
-    (eq-decides (length (c .pool .pages)) n and pages-decides n (c .pool .pages) and numbers-decides n (c .regs .numbers) and queues-decides n (c .pool))
-    (λ w. record { count = w .0 .0 .0; pages = w .0 .0 .1; numbers = w .0 .1; queues = w .1 })
-    (λ f. (((f .count, f .pages), f .numbers), f .queues))
+    (eq-decides (length (c .pool .pages)) n and pages-decides n (c .pool .pages) and numbers-decides n (c .regs .numbers) and queues-decides n (c .pool)
+    and request-decides (length (freeBelow n (c .pool .pages))) (c .regs .numbers))
+    (λ w. record { count = w .0 .0 .0 .0; pages = w .0 .0 .0 .1; numbers = w .0 .0 .1; queues = w .0 .1; request = w .1 })
+    (λ f. ((((f .count, f .pages), f .numbers), f .queues), f .request))
 
 -- what refusal 16 asks of a chip with n pages
 abbrev pub Fits : ℕ → Chip → Type 0

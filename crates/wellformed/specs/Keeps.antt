@@ -10,11 +10,11 @@ use lib.Dec.{eqb, leb, ltb}
 use lib.ListN.{length, getD, set, take, length-replicate}
 use lib.Seq.{getD-set-same}
 use Rattle.rules.specs.Bits.{bit, lowByte}
-use Rattle.rules.specs.Lists.{member, some?, firstEmpty}
+use Rattle.rules.specs.Lists.{member, some?, freeBelow, firstEmpty}
 use Rattle.rules.specs.Chip.{Registers, Chip, size, free, powered, powerUp}
 use Rattle.rules.specs.Fields.{setRx, setCompletion, inRegisters, inPool, inMemory}
 use Rattle.rules.specs.Answers.{Effect, Turn}
-use Rattle.rules.specs.WellFormed.{Distinct, Formed, WellFormed}
+use Rattle.rules.specs.WellFormed.{Distinct, Waits, Formed, WellFormed}
 use Rattle.rules.specs.Packet.{putBytes}
 use Rattle.rules.specs.Mmu.{Command, nothing, allocate, reset, removeRx, removeAndRelease, release, enqueue, resetTx, unknown, decode, perform, allot}
 use Rattle.rules.specs.Interrupts.{acknowledge}
@@ -28,7 +28,8 @@ use Rattle.lists.specs.Facts.{if-not, member-first}
 use Rattle.wellformed.specs.Cases.{pick, pick-by, by-head, by-idle, by-packet, by-tests, by-lanes, by-read, by-send, by-step}
 use Rattle.wellformed.specs.Fit.{Fits}
 use Rattle.wellformed.specs.Frames.{storable, needs-one, needs-seven}
-use Rattle.wellformed.specs.Pool.{has-small, given-back, number-free, number-not-rx, number-not-tx, given, rx-popped, rx-joined, tx-popped, tx-joined, completion-joined, completion-popped, tx-and-completion-emptied, with-bank, with-packet, with-result, reset-numbers, beside, emptied}
+use Rattle.wellformed.specs.Pool.{has-small, number-free, number-not-rx, number-not-tx, given, rx-popped, rx-joined, tx-popped, tx-joined, completion-joined, completion-popped, tx-and-completion-emptied, with-bank, with-packet, with-result, reset-numbers, beside, emptied}
+use Rattle.wellformed.specs.Settle.{given-back}
 
 -- Pages that are taken from enough are some.
 some-taken : (m : ℕ) → 1 ≤ m → (l : List ℕ) → m ≤ length l → some? (take m l) ≡ true
@@ -67,6 +68,10 @@ module _ (n : ℕ) where
     head-small : (k : ℕ) (ks : List ℕ) → c .pool .rx ≡ k ∷ ks → k < n
     head-small k ks e = omega (arith, has-small (c .pool .pages) k (w .0 .queues .rxAllocated k (rw e (member-first k ks))), w .0 .count)
 
+    -- An allocation of more pages than are free waits.
+    pends : (m : ℕ) → (1 ≤ m) × (m ≤ 8) → length (free c) < m → Waits (length (freeBelow n (c .pool .pages))) m 0x80
+    pends m v h = record { few = v .1; short = omega (arith, h, ap (λ (k : ℕ). length (freeBelow k (c .pool .pages))) (w .0 .count)); unanswered = refl }
+
     pub keeps-perform : (k : Command) → Valid k → Kept (perform k c)
     unfolding perform
     keeps-perform nothing v = w
@@ -74,25 +79,22 @@ module _ (n : ℕ) where
         pick-by Kept (leb m (length (free c)))
         (λ e. let h = leb-true m (length (free c)) e in
         let g = given (w .0) m (v .0) (v .1) h in (
-          beside g (with-result (w .0 .numbers) _ (inl (number-free (w .0) (omega (arith, v .0, h))))),
+          beside g (with-result (w .0 .numbers) _ (inl (number-free (w .0) (omega (arith, v .0, h)))) 0) (inl refl),
           w .1,
         ))
-        (λ e. (beside (w .0) (with-result (w .0 .numbers) 0x80 (inr refl)), w .1))
-    keeps-perform reset v = (rw (w .0 .count) (emptied n (with-result (w .0 .numbers) 0x80 (inr refl))), w .1)
+        (λ e. (beside (w .0) (with-result (w .0 .numbers) 0x80 (inr refl) m) (inr (pends m v (leb-false m (length (free c)) e))), w .1))
+    keeps-perform reset v = (rw (w .0 .count) (emptied n (with-result (w .0 .numbers) 0x80 (inr refl) 0) refl), w .1)
     keeps-perform removeRx v = by-head c Kept _ (c .pool .rx) w (λ k ks e. (rx-popped (w .0) k ks e, w .1))
     keeps-perform removeAndRelease v =
         by-head c Kept _ (c .pool .rx) w
         (λ k ks e. let q = w .0 .queues in
         let d : Distinct (k ∷ ks) = rw e at (q .rxDistinct) in
         let m : member k (c .pool .rx) ≡ true = rw e (member-first k ks) in
-        (given-back (rx-popped (w .0) k ks e) k (head-small k ks e) (λ x. true≢false (sym x ∙ d .0)) (λ x. true≢false (sym x ∙ q .notBoth k m)), w .1))
+        given-back n (inPool (setRx ks) c) (rx-popped (w .0) k ks e, w .1) k (head-small k ks e) (λ x. true≢false (sym x ∙ d .0)) (λ x. true≢false (sym x ∙ q .notBoth k m)))
     keeps-perform release v =
         by-idle c Kept _ w w
-        (λ a r t. (
-          given-back (w .0) (c .regs .numbers .packet) (omega (arith, has-small (c .pool .pages) (c .regs .numbers .packet) a, w .0 .count))
-              (λ x. true≢false (sym x ∙ r)) (λ x. true≢false (sym x ∙ t)),
-          w .1,
-        ))
+        (λ a r t. given-back n c w (c .regs .numbers .packet) (omega (arith, has-small (c .pool .pages) (c .regs .numbers .packet) a, w .0 .count))
+        (λ x. true≢false (sym x ∙ r)) (λ x. true≢false (sym x ∙ t)))
     keeps-perform enqueue v = by-idle c Kept _ w w (λ a r t. (tx-joined (w .0) (c .regs .numbers .packet) a r t, w .1))
     keeps-perform resetTx v = (tx-and-completion-emptied (w .0), w .1)
     keeps-perform unknown v = w
@@ -113,7 +115,7 @@ module _ (n : ℕ) where
     -- Of the writes to RCR only a soft reset changes the pool.
     keeps-rcr : (x : ℕ) → Fits n (writeRcr x c)
     unfolding writeRcr
-    keeps-rcr x = pick (Fits n) (bit 15 x) (rw (w .0 .count) (emptied n (reset-numbers n)), w .1) w
+    keeps-rcr x = pick (Fits n) (bit 15 x) (rw (w .0 .count) (emptied n (reset-numbers n) refl), w .1) w
 
     keeps-tcr : (x : ℕ) → Fits n (inRegisters (writeTcr x) c)
     unfolding writeTcr
@@ -142,13 +144,13 @@ module _ (n : ℕ) where
     keeps-write (STATION k) p v = w
     keeps-write CONTROL p v = w
     keeps-write COMMAND p v = by-lanes c Kept p _ w (keeps-perform (decode (lowByte v)) (decode-valid (lowByte v)))
-    keeps-write PACKET p v = by-lanes c Kept p _ w (beside (w .0) (with-packet (w .0 .numbers) (v % 64) (omega arith)), w .1)
+    keeps-write PACKET p v = by-lanes c Kept p _ w (beside (w .0) (with-packet (w .0 .numbers) (v % 64) (omega arith)) (w .0 .request), w .1)
     keeps-write HEADS p v = w
     keeps-write POINTER p v = w
     keeps-write DATA p v = keeps-write-data (bytesOf p v)
     keeps-write INTERRUPT p v = keeps-interrupt p v
     keeps-write (TABLE k) p v = w
-    keeps-write BANK p v = by-lanes c Kept p _ w (beside (w .0) (with-bank (w .0 .numbers) (v % 8) (omega arith)), w .1)
+    keeps-write BANK p v = by-lanes c Kept p _ w (beside (w .0) (with-bank (w .0 .numbers) (v % 8) (omega arith)) (w .0 .request), w .1)
     keeps-write UNUSED p v = w
     keeps-write ABSENT p v = w
 
@@ -197,7 +199,7 @@ module _ (n : ℕ) (c : Chip) (w : Fits n c) where
       let u : k < n = omega (arith, has-small (c .pool .pages) k (q .txAllocated k m), w .0 .count) in
       let p = tx-popped (w .0) k rest e in
       pick-by (Fits n) (autoRelease (good (c .regs .sending .tcr) (s .outcome)) (c .regs))
-      (λ a. (given-back p k u (λ x. true≢false (sym m ∙ q .notBoth k x)) (λ x. true≢false (sym x ∙ d .0)), length-put _ 0 _ (c .memory) ∙ w .1))
+      (λ a. given-back n _ (p, length-put _ 0 _ (c .memory) ∙ w .1) k u (λ x. true≢false (sym m ∙ q .notBoth k x)) (λ x. true≢false (sym x ∙ d .0)))
       (λ a. (completion-joined p k u (f a), length-put _ 0 _ (c .memory) ∙ w .1))
 
   abbrev Turned : Turn → Type 0
@@ -225,7 +227,7 @@ module _ (n : ℕ) (c : Chip) (w : Fits n c) where
 
 -- Power-up.
 pub powered-fits : (n : ℕ) → Fits n (powered n)
-powered-fits n = (emptied n (reset-numbers n), length-replicate (256 * n) 0)
+powered-fits n = (emptied n (reset-numbers n) refl, length-replicate (256 * n) 0)
 
 pub power-up-well : WellFormed powerUp
 power-up-well = powered-fits 24 .0

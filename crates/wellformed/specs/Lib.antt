@@ -8,5 +8,6 @@ pub mod Count
 pub mod Fit
 -- Each step keeps a chip well formed; power-up is.
 pub mod Pool
+pub mod Settle
 pub mod Frames
 pub mod Keeps

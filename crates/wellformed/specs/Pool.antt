@@ -1,7 +1,7 @@
 -- What keeps the pool well formed: pages given and given back, entries that join and leave a queue. For any size n.
 use mathlib.Core.Path.{_≡_, refl, ap, sym, subst, _∙_}
 use mathlib.Core.Bool.{true, false, true≢false}
-use mathlib.Core.Logic.{_⊎_, inr, ⊎-elim}
+use mathlib.Core.Logic.{_⊎_, inl, inr, ⊎-elim}
 use mathlib.Core.List.{List, [], _∷_, _++_}
 use Prim.Native.Nat.{ℕ, zero, suc, _≤_, _<_}
 use native.Mathlib.Omega.{arith}
@@ -12,9 +12,9 @@ use lib.Seq.{getD-set-other}
 use Rattle.rules.specs.Lists.{member, some?, freeBelow, firstEmpty}
 use Rattle.rules.specs.Chip.{Numbers, Pool, resetRegisters, emptyPool}
 use Rattle.rules.specs.Fields.{setPages, setRx, setTx, setCompletion}
-use Rattle.rules.specs.WellFormed.{Distinct, GoodPages, GoodQueues, GoodNumbers, Clauses}
+use Rattle.rules.specs.WellFormed.{Distinct, GoodPages, GoodQueues, GoodNumbers, GoodRequest, Clauses}
 use Rattle.lists.specs.Facts.{if-not, or-left, or-right, nobody, member-cases, member-later, member-append, member-free, member-take}
-use Rattle.wellformed.specs.Count.{unallocated}
+use Rattle.wellformed.specs.Count.{free-set, unallocated}
 use Rattle.lists.specs.Owned.{owned-in}
 use Rattle.wellformed.specs.Pages.{granted-ascend, first-empty, set-good}
 
@@ -129,6 +129,10 @@ module _ (n : ℕ) (ls : List (List ℕ)) (rx tx completion : List ℕ) (q : Goo
     completionNumbers = q .completionNumbers;
   }
 
+-- What waits for more than are free waits on where fewer are.
+pub still-waits : {freePages : ℕ} (fewer : ℕ) (r : Numbers) → fewer ≤ freePages → GoodRequest freePages r → GoodRequest fewer r
+still-waits fewer r h g = ⊎-elim (λ e. inl e) (λ p. inr (record { few = p .few; short = omega (arith, h, p .short); unanswered = p .unanswered })) g
+
 module _ {n : ℕ} {r : Numbers} {q : Pool} (w : Clauses n r q) where
   -- Another pool beside the same registers.
   abbrev Good : Pool → Type 0
@@ -136,19 +140,22 @@ module _ {n : ℕ} {r : Numbers} {q : Pool} (w : Clauses n r q) where
 
   -- The queues are others.
   requeued : (rx tx completion : List ℕ) → GoodQueues n (q .pages) rx tx completion → Good (record { pages = q .pages; rx = rx; tx = tx; completion = completion })
-  requeued rx tx completion g = record { count = w .count; pages = w .pages; numbers = w .numbers; queues = g }
+  requeued rx tx completion g = record { count = w .count; pages = w .pages; numbers = w .numbers; queues = g; request = w .request }
 
   -- A packet in neither queue gets other pages, with which the page lists are good.
-  repaged : (k : ℕ) (l : List ℕ) → k < n → (member k (q .rx) ≡ true → ⊥) → (member k (q .tx) ≡ true → ⊥) → GoodPages n (set (q .pages) k l) → Good (setPages (set (q .pages) k l) q)
-  repaged k l h r t g = record {
+  repaged : (k : ℕ) (l : List ℕ) → k < n → (member k (q .rx) ≡ true → ⊥) → (member k (q .tx) ≡ true → ⊥) → GoodPages n (set (q .pages) k l)
+      → GoodRequest (length (freeBelow n (set (q .pages) k l))) r → Good (setPages (set (q .pages) k l) q)
+  repaged k l h x t g asked = record {
     count = length-set (q .pages) k l ∙ w .count;
     pages = g;
     numbers = w .numbers;
-    queues = touched n (q .pages) (q .rx) (q .tx) (q .completion) (w .queues) k l r t;
+    queues = touched n (q .pages) (q .rx) (q .tx) (q .completion) (w .queues) k l x t;
+    request = asked;
   }
 
-  pub given-back : (k : ℕ) → k < n → (member k (q .rx) ≡ true → ⊥) → (member k (q .tx) ≡ true → ⊥) → Good (setPages (set (q .pages) k []) q)
-  given-back k h r t = repaged k [] h r t (set-good (q .pages) k [] (omega (arith, w .count)) n (w .pages) tt (omega arith) (λ j m. nobody j m))
+  -- Pages are free, while nothing waits.
+  pub made-free : r .waiting ≡ 0 → (k : ℕ) → k < n → (member k (q .rx) ≡ true → ⊥) → (member k (q .tx) ≡ true → ⊥) → Good (setPages (set (q .pages) k []) q)
+  made-free none k h x t = repaged k [] h x t (set-good (q .pages) k [] (omega (arith, w .count)) n (w .pages) tt (omega arith) (λ j m. nobody j m)) (inl none)
 
   -- The lowest unallocated number, where a page is free.
   pub number-free : 0 < length (freeBelow (length (q .pages)) (q .pages)) → firstEmpty (q .pages) < n
@@ -174,8 +181,9 @@ module _ {n : ℕ} {r : Numbers} {q : Pool} (w : Clauses n r q) where
       let apart : (p : ℕ) → member p l ≡ true → (p < n) × ((i : ℕ) → (i ≡ k → ⊥) → member p (getD ls i []) ≡ true → ⊥) =
       λ p x. let f = member-free (length ls) ls p (member-take p m (freeBelow (length ls) ls) x) in
       (omega (arith, f .0, w .count), λ i d y. true≢false (sym (owned-in p ls i y) ∙ f .1)) in
-      repaged k l u number-not-rx number-not-tx
-      (set-good ls k l (omega (arith, u, w .count)) n (w .pages) (granted-ascend m (length ls) ls) (simp length-take (omega (arith, b))) apart)
+      let after = set-good ls k l (omega (arith, u, w .count)) n (w .pages) (granted-ascend m (length ls) ls) (simp length-take (omega (arith, b))) apart in
+      let fewer = free-set n ls k l (omega (arith, u, w .count)) (w .pages) after in
+      repaged k l u number-not-rx number-not-tx after (still-waits _ r (omega (arith, fewer, ap length (first-empty ls))) (w .request))
 
   pub rx-popped : (k : ℕ) (ks : List ℕ) → q .rx ≡ k ∷ ks → Good (setRx ks q)
   rx-popped k ks e = requeued ks (q .tx) (q .completion) (popped n (q .pages) (q .rx) (q .tx) (q .completion) (w .queues) k ks e)
@@ -211,21 +219,21 @@ module _ {n : ℕ} {r : Numbers} {q : Pool} (w : Clauses n r q) where
 
 -- The registers' numbers: one of them is another, or all are reset.
 module _ {n : ℕ} {r : Numbers} (g : GoodNumbers n r) where
-  pub with-bank : (x : ℕ) → x < 8 → GoodNumbers n (record { bank = x; packet = r .packet; result = r .result })
+  pub with-bank : (x : ℕ) → x < 8 → GoodNumbers n (record { bank = x; packet = r .packet; result = r .result; waiting = r .waiting })
   with-bank x h = record { bankSmall = h; packetSmall = g .packetSmall; resultGood = g .resultGood }
 
-  pub with-packet : (x : ℕ) → x < 64 → GoodNumbers n (record { bank = r .bank; packet = x; result = r .result })
+  pub with-packet : (x : ℕ) → x < 64 → GoodNumbers n (record { bank = r .bank; packet = x; result = r .result; waiting = r .waiting })
   with-packet x h = record { bankSmall = g .bankSmall; packetSmall = h; resultGood = g .resultGood }
 
-  pub with-result : (x : ℕ) → (x < n) ⊎ (x ≡ 0x80) → GoodNumbers n (record { bank = r .bank; packet = r .packet; result = x })
-  with-result x h = record { bankSmall = g .bankSmall; packetSmall = g .packetSmall; resultGood = h }
+  pub with-result : (x : ℕ) → (x < n) ⊎ (x ≡ 0x80) → (waiting : ℕ) → GoodNumbers n (record { bank = r .bank; packet = r .packet; result = x; waiting = waiting })
+  with-result x h waiting = record { bankSmall = g .bankSmall; packetSmall = g .packetSmall; resultGood = h }
 
 pub reset-numbers : (n : ℕ) → GoodNumbers n (resetRegisters [] .numbers)
 reset-numbers n = record { bankSmall = omega arith; packetSmall = omega arith; resultGood = inr refl }
 
 -- Other registers beside the same pool.
-pub beside : {n : ℕ} {r s : Numbers} {q : Pool} → Clauses n r q → GoodNumbers n s → Clauses n s q
-beside w g = record { count = w .count; pages = w .pages; numbers = g; queues = w .queues }
+pub beside : {n : ℕ} {r s : Numbers} {q : Pool} → Clauses n r q → GoodNumbers n s → GoodRequest (length (freeBelow n (q .pages))) s → Clauses n s q
+beside w g asked = record { count = w .count; pages = w .pages; numbers = g; queues = w .queues; request = asked }
 
 -- No packet has pages, and no queue has entries.
 none-there : (n i : ℕ) → getD {A = List ℕ} (replicate n []) i [] ≡ []
@@ -233,9 +241,9 @@ none-there zero i = refl
 none-there (suc n) zero = refl
 none-there (suc n) (suc i) = none-there n i
 
-pub emptied : (n : ℕ) {r : Numbers} → GoodNumbers n r → Clauses n r (emptyPool n)
+pub emptied : (n : ℕ) {r : Numbers} → GoodNumbers n r → r .waiting ≡ 0 → Clauses n r (emptyPool n)
 unfolding member
-emptied n g = record {
+emptied n g none = record {
   count = length-replicate n [];
   pages = record {
     once = λ i j a u v. nobody a (sym (ap (member a) (none-there n i)) ∙ u);
@@ -253,4 +261,5 @@ emptied n g = record {
     completionFew = omega arith;
     completionNumbers = λ j m. nobody j m;
   };
+  request = inl none;
 }

@@ -10,6 +10,7 @@ use Rattle.state.specs.declared.Answer.the-variants as answer
 use Rattle.state.specs.Promise.{Ready}
 use Rattle.commands.specs.declared.Order.{Order}
 use Rattle.commands.specs.Orders.{commandOf, Performs}
+use Rattle.pool.specs.Pages.{waits-few}
 use Rattle.commands.proofs.Returns.{unchanged}
 use borrow.Author.Needs.{needs}
 use Rattle.commands.proofs.commanded.Statement.{statement}
@@ -33,6 +34,9 @@ do-allocate-requires c κs =
     let s = d .before .before .before .before in
     let v = subst Valid (sym (d .decoded .ensures) ∙ ap commandOf (o .order .given .1)) (decode-valid (s .args .value)) in
     (v .0, v .1, s .pre .sound .kept, s .pre .sound .sets, s .pre .well .pages)
+
+do-release-requires : tie.Need-do-release-requires
+do-release-requires c κs = let s = c .before .before .before .before .before .before .before .before in (s .pre .sound .kept, s .pre .sound .sets, s .pre .well .pages, waits-few (s .pre))
 
 returns : tie.Need-returns
 unfolding perform
@@ -94,7 +98,7 @@ commanded-spec =
     (λ c. search needs)
     (λ c κs. search needs)
     (λ c. search needs)
-    (λ c κs. search needs)
+    do-release-requires
     (λ c. search needs)
     (λ c κs. search needs)
     (λ c. search needs)

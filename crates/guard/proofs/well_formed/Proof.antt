@@ -1,4 +1,4 @@
--- Words, page sets and queues, each decided by its test; and MIR by the pages that are counted free.
+-- Words, page sets, the request and queues, each decided by its test; and MIR by the pages that are counted free.
 use mathlib.Core.Path.{_≡_, ap, _∙_}
 use mathlib.Core.Bool.{Bool, true, cond}
 use mathlib.Core.List.{map}
@@ -13,7 +13,9 @@ use Rattle.lists.specs.Facts.{refutes, agrees, free-few}
 use Rattle.sets.specs.Views.{pagesOf}
 use Rattle.sets.specs.Lists.{lists-length}
 use Rattle.sets.specs.Good.{never}
+use Rattle.state.specs.View.{word}
 use Rattle.state.specs.Promise.{Small}
+use Rattle.state.specs.Restated.{request-restated}
 use Rattle.guard.proofs.well_formed.Statement.{statement}
 use Rattle.guard.proofs.well_formed.Tie as tie
 
@@ -56,18 +58,29 @@ returns-3 : tie.Need-returns-3
 unfolding wordOf
 returns-3 c = let e = c .before .before .before in never (λ r. omega (arith, c .if3 .taken, r .sound .sets .free, counted e))
 
-returns-4 : tie.Need-returns-4
+-- MIR counts the free pages.
+mir-counted : (e : tie.Else3) → word (s (e .before .before .before) .args .words .now) 4 ≡ wordOf 24 (free (e .before .before .before))
 unfolding wordOf
+mir-counted e = omega (arith, e .if3 .left, counted (e .before .before .before))
+
+returns-4 : tie.Need-returns-4
 returns-4 c =
-    let m = c .before in
-    let e = m .before .before .before in
+    let e = c .before .before .before .before .before in
+    refutes (c .before .request-good .ensures) (λ r. request-restated (s (c .before .before .before .before .before .before .before .before) .args .words .now) _ (mir-counted e) .1 (r .well .request)) (not-true _ (c .if4 .taken))
+
+returns-5 : tie.Need-returns-5
+returns-5 c =
+    let m = c .before .before .before .before .before .before in
+    let e = c .before .before .before .before .before .before .before .before .before in
     let b = a e .before in
+    let w = s e .args .words .now in
     let words = b .before .words-good .ensures .sound (not-false _ (b .if1 .left)) in
     let small : Small (s e .args .sets .now) = λ i. omega (arith, b .before .before .before .shared-slice-known2 .given i) in
+    let request = request-restated w _ (mir-counted m) .0 (c .before .before .request-good .ensures .sound (not-false _ (c .before .if4 .left))) in
     agrees (c .queues-good .ensures)
     (λ g. record {
-      sound = record { kept = words .0; queues = g .0; sets = record { many = s e .pre .1; free = omega (arith, m .if3 .left, counted e); small = small } };
-      well = record { count = lists-length (s e .args .sets .now) ∙ s e .pre .1; pages = a e .audit .ensures .0 .sound (good e); numbers = words .1; queues = g .1 };
+      sound = record { kept = words .0; queues = g .0; sets = record { many = s e .pre .1; free = mir-counted m; small = small } };
+      well = record { count = lists-length (s e .args .sets .now) ∙ s e .pre .1; pages = a e .audit .ensures .0 .sound (good e); numbers = words .1; queues = g .1; request = request };
     })
     (λ r. (r .sound .queues, r .well .queues))
 
@@ -75,4 +88,5 @@ pub well-formed-spec : {M : Type 1} → statement M
 well-formed-spec =
     tie.close
     (tie.spec
-    (λ c κs. search needs) returns (λ c κs. search needs) returns-2 (λ c. search needs) cast-if3 mul-if3 add-if3 returns-3 (λ c κs. search needs) returns-4)
+    (λ c κs. search needs) returns (λ c κs. search needs) returns-2 (λ c. search needs) cast-if3 mul-if3 add-if3 returns-3
+    (λ c. search needs) (λ c. search needs) (λ c. search needs) (λ c κs. search needs) returns-4 (λ c κs. search needs) returns-5)

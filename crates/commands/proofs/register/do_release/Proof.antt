@@ -1,4 +1,4 @@
--- Refusal 5, refusal 6, or the packet's pages are free.
+-- Refusal 5, refusal 6, or the packet's pages are given back.
 use mathlib.Core.Path.{_≡_, ap, sym, _∙_}
 use mathlib.Core.Bool.{true}
 use mathlib.Core.List.{[], map}
@@ -15,7 +15,7 @@ use Rattle.sets.specs.Views.{pagesOf}
 use Rattle.sets.specs.Lists.{lists-length}
 use Rattle.state.specs.View.{view}
 use Rattle.pool.specs.Queues.{queued-told}
-use Rattle.pool.specs.Pages.{repages-chip, repages-sound}
+use Rattle.pool.specs.Pages.{alters-sound}
 use Rattle.commands.proofs.Steps.{releases}
 use Rattle.commands.proofs.Returns.{performs, refuses-5, refuses-6, goes-ahead}
 use borrow.Author.Needs.{needs}
@@ -56,7 +56,7 @@ give-back-requires : tie.Need-give-back-requires
 give-back-requires c κs =
     let e = c .before .before .before .before .before in
     let s = e .before .before .before .before .before .before .before in
-    (s .pre .0, s .pre .1, s .pre .2, small e)
+    (s .pre .0, s .pre .1, s .pre .2, small e, s .pre .3)
 
 returns-3 : tie.Need-returns-3
 returns-3 c = λ q r mem.
@@ -71,8 +71,8 @@ returns-3 c = λ q r mem.
     let back = b .give-back .ensures in
     performs rules.release w ss q mem after
     (goes-ahead rules.release (λ x. did (after x)) releases w ss q _ (n .named .ensures) (there e) (i .is-queued .ensures ∙ queued-told r _) (f .if2 .left) mem)
-    (repages-chip back q mem ∙ ap (λ (j : ℕ). rules.giveBack j (view w ss q mem)) (n .named .ensures))
-    (repages-sound back q (r .sound .queues))
+    (back .chip q mem ∙ ap (λ (j : ℕ). rules.giveBack j (view w ss q mem)) (n .named .ensures))
+    (alters-sound back q (r .sound .queues))
 
 pub do-release-spec : {M : Type 1} → statement M
 do-release-spec =

@@ -1,15 +1,16 @@
--- RX is empty, or its head leaves and its pages are free.
+-- RX is empty, or its head leaves and its pages are given back.
 use mathlib.Core.Path.{ap, sym, _∙_}
 use mathlib.Core.List.{[]}
 use Prim.Native.Nat.{ℕ, _<_}
 use native.Mathlib.Omega.{arith}
 use lib.ListN.{length, drop, getD}
+use Rattle.rules.specs.Chip.{Registers}
 use Rattle.rules.specs.Fields.{setRx, inPool}
 use Rattle.rules.specs.Mmu as rules
 use Rattle.state.specs.declared.Answer.the-variants as answer
 use Rattle.state.specs.View.{word, queueIn, view}
 use Rattle.pool.specs.Queues.{rejoins-chip, rejoins-sets}
-use Rattle.pool.specs.Pages.{repages-chip, repages-sound}
+use Rattle.pool.specs.Pages.{alters-sound, waits-few}
 use Rattle.commands.proofs.Steps.{releases-none, releases-head, head-small}
 use Rattle.commands.proofs.Returns.{performs, unchanged}
 use borrow.Author.Needs.{needs}
@@ -32,7 +33,7 @@ give-back-requires c κs =
     let s = e .before .before .before .before .before in
     let left = l .leave-rx .ensures in
     let small = head-small (view (s .args .words .now) (s .args .sets .now) (s .args .queues .now) []) (s .pre .well) (some e) in
-    (left .1 .kept, rejoins-sets (left .1) (s .pre .sound .sets), s .pre .well .pages, omega (arith, left .0, small))
+    (left .1 .kept, rejoins-sets (left .1) (s .pre .sound .sets), s .pre .well .pages, omega (arith, left .0, small), omega (arith, waits-few (s .pre), ap (λ (r : Registers). r .numbers .waiting) (left .1 .regs)))
 
 returns-2 : tie.Need-returns-2
 returns-2 c = λ mem.
@@ -49,8 +50,8 @@ returns-2 c = λ mem.
     let back = b .give-back .ensures in
     performs rules.removeAndRelease w ss q mem (λ x. rules.giveBack (getD (x .pool .rx) 0 0) (inPool (setRx (drop 1 (x .pool .rx))) x))
     (releases-head v (some e))
-    (repages-chip back (l .leave-rx .last .1 .0) mem ∙ ap (rules.giveBack k) (rejoins-chip (left .1) ss mem) ∙ ap (λ (j : ℕ). rules.giveBack j (inPool (setRx (drop 1 (queueIn 0 (word w 6) q))) v)) (left .0))
-    (repages-sound back (l .leave-rx .last .1 .0) (left .1 .queues))
+    (back .chip (l .leave-rx .last .1 .0) mem ∙ ap (rules.giveBack k) (rejoins-chip (left .1) ss mem) ∙ ap (λ (j : ℕ). rules.giveBack j (inPool (setRx (drop 1 (queueIn 0 (word w 6) q))) v)) (left .0))
+    (alters-sound back (l .leave-rx .last .1 .0) (left .1 .queues))
 
 pub do-remove-and-release-spec : {M : Type 1} → statement M
 do-remove-and-release-spec =

@@ -1,8 +1,11 @@
 -- Registers and TX, then the status word, then the packet itself: the rules' order.
 use borrow.Author.Needs.{needs}
-use mathlib.Core.Path.{_∙_}
+use mathlib.Core.Path.{ap, _∙_}
+use mathlib.Core.List.{[]}
 use native.Mathlib.Omega.{arith}
+use Rattle.rules.specs.Chip.{Chip}
 use Rattle.packet.proofs.Facts.{room-less}
+use Rattle.pool.specs.Pages.{waits-few}
 use Rattle.sending.proofs.Facts.{same-completion, completes}
 use Rattle.sending.proofs.Head.{head-small}
 use Rattle.sending.proofs.finish.complete.Statement.{statement}
@@ -28,6 +31,7 @@ retire-requires c κs =
       record { kept = e .1 .kept; queues = e .1 .queues; sets = record { many = o .sets .many; free = e .1 .free ∙ o .sets .free; small = o .sets .small } },
       s .pre .0 .well .pages,
       λ f. omega (arith, s .pre .4 f, same-completion (e .1) (o .queues)),
+      omega (arith, waits-few (s .pre .0), ap (λ (c : Chip). c .regs .numbers .waiting) (e .1 .chip [] [])),
     )
 
 returns : tie.Need-returns

@@ -15,8 +15,8 @@ use Rattle.sets.specs.Views.{pagesOf}
 use Rattle.sets.specs.Lists.{list-at, lists-length}
 use Rattle.state.specs.Stores.{store-mir}
 use Rattle.pool.proofs.Paged.{repaged}
-use Rattle.pool.proofs.pages.give_back.Statement.{statement}
-use Rattle.pool.proofs.pages.give_back.Tie as tie
+use Rattle.pool.proofs.pages.make_free.Statement.{statement}
+use Rattle.pool.proofs.pages.make_free.Tie as tie
 
 -- they are 24 at most, with those that are free
 few : (s : List ℕ) (k : ℕ) → length s ≡ 24 → k < 24 → GoodPages 24 (map pagesOf s) → length (freeBelow 24 (map pagesOf s)) + length (getD (map pagesOf s) k []) ≤ 24
@@ -45,8 +45,8 @@ returns c =
     (back-good 24 _ k (omega (arith, lists-length (s .args .sets .now), p .1 .many, p .3)) (p .2)) (λ i. omega (arith, c .slice-known5 .given i)) r refl
     (omega (arith, m .more .ensures, n .page-count .ensures, ap length (list-at (s .args .sets .now) k)))
 
-pub give-back-spec : {M : Type 1} → statement M
-give-back-spec =
+pub make-free-spec : {M : Type 1} → statement M
+make-free-spec =
     tie.close
     (tie.spec
     (λ c. search needs)
