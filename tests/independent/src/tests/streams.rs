@@ -1,0 +1,58 @@
+//! What the generated streams have to be, and to meet.
+
+use std::collections::BTreeSet;
+
+use super::record;
+use crate::bench::{numbers, Bench};
+use crate::generator;
+
+#[test]
+fn streams_are_exact_and_repeat() {
+    let stream = generator::records(7, 3_001);
+    assert_eq!(stream.len(), 3_001);
+    assert_eq!(stream, generator::records(7, 3_001));
+    assert_eq!(stream[..1_000], generator::records(7, 1_000)[..]);
+    assert_ne!(stream, generator::records(8, 3_001));
+}
+
+/// A stream that never meets a rule says nothing about it.
+#[test]
+fn streams_meet_every_answer() {
+    let mut bench = Bench::default();
+    let mut answers = BTreeSet::new();
+    let mut arrivals = BTreeSet::new();
+    for record in generator::records(1, 50_000) {
+        let (answer, value) = numbers(bench.step(&record));
+        answers.insert(answer);
+        if record[0] == 6 && answer == 0 {
+            arrivals.insert(value);
+        }
+    }
+    assert_eq!(answers, (0..=14).chain([17]).collect());
+    assert_eq!(arrivals, (0..=5).collect());
+}
+
+/// Each bit of the status has the line up and down, alone in the mask.
+#[test]
+fn streams_move_the_line() {
+    let mut bench = Bench::default();
+    let mut seen = BTreeSet::new();
+    for record in generator::records(1, 50_000) {
+        let _ = bench.step(&record);
+        seen.insert((bench.chip.registers.mask, bench.chip.line_is_up()));
+    }
+    for mask in (0..6).map(|bit| 1 << bit) {
+        assert!(seen.contains(&(mask, false)), "down under {mask:02x}");
+        assert!(seen.contains(&(mask, true)), "up under {mask:02x}");
+    }
+}
+
+/// Else a program that serves a tail would still print 17.
+#[test]
+fn tails_would_be_answered() {
+    for seed in 0..100 {
+        let whole = record(&generator::tail(seed));
+        let (answer, _) = numbers(Bench::default().step(&whole));
+        assert_ne!(answer, 17, "{whole:02x?}");
+    }
+}
