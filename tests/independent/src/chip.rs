@@ -110,6 +110,8 @@ pub struct Registers {
     pub packet_number: u8,
     /// The allocation result; None reads 80h.
     pub result: Option<PacketNumber>,
+    /// The pages that a pending request waits for; the result then reads 80h.
+    pub waiting: Option<usize>,
     pub pointer: Pointer,
     /// TX EMPTY, latched.
     pub tx_empty: bool,
@@ -133,6 +135,7 @@ impl Default for Registers {
             control: 0,
             packet_number: 0,
             result: None,
+            waiting: None,
             pointer: Pointer::default(),
             tx_empty: true,
             rx_overrun: false,

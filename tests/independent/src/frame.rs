@@ -113,7 +113,8 @@ impl Chip {
             || destination.is_group() && group()
     }
 
-    /// Not "free pages less those needed are below the reserved number".
+    /// Not "free pages less those needed are below the reserved number". A
+    /// request that waits keeps no page from a frame.
     fn has_room(&self, needed: usize) -> bool {
         self.packets.free_pages() >= needed + usize::from(self.registers.reserved)
     }

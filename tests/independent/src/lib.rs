@@ -1,6 +1,6 @@
-//! A second model of the LAN91C96, written from document 01 and its decided
-//! points alone. It shares no line with the proved model, so a difference
-//! between the two is a slip in one of them.
+//! A second model of the LAN91C96, written from documents 01 and 02 and their
+//! decided points alone. It shares no line with the proved model, so a
+//! difference between the two is a slip in one of them.
 
 pub mod address;
 pub mod bench;

@@ -39,25 +39,26 @@ impl Chip {
     pub fn command(&mut self, value: u8) -> Result<(), Refusal> {
         match Command::decode(value)? {
             Command::Nothing => {}
-            // "else the result reads 80h (command still answers 0)"
-            Command::Allocate(pages) => self.registers.result = self.packets.grant(pages),
+            // "A new allocate command replaces a waiting one".
+            Command::Allocate(pages) => self.allocate(pages),
             Command::FreeAll => self.free_all(),
             Command::RemoveRx => {
                 self.remove_rx()?;
             }
             Command::RemoveAndReleaseRx => {
                 let packet = self.remove_rx()?;
-                self.packets.release(packet);
+                self.give_back(packet);
             }
             Command::Release => {
                 let packet = self.idle_packet()?;
-                self.packets.release(packet);
+                self.give_back(packet);
             }
             Command::Enqueue => {
                 let packet = self.idle_packet()?;
                 self.tx.push(packet);
             }
-            // "E0h empties TX and completion, frees nothing."
+            // "E0h empties TX and completion, frees nothing", and leaves a
+            // request that waits.
             Command::EmptyTx => {
                 self.tx.clear();
                 self.completion.clear();
@@ -66,11 +67,32 @@ impl Chip {
         Ok(())
     }
 
-    /// "40h frees all pages, empties all FIFOs, sets the result to 80h."
+    /// Grants the pages if that many are free; else "the request stays pending,
+    /// the result reads 80h".
+    fn allocate(&mut self, pages: usize) {
+        self.registers.result = self.packets.grant(pages);
+        self.registers.waiting = match self.registers.result {
+            Some(_) => None,
+            None => Some(pages),
+        };
+    }
+
+    /// Releases a packet, and tries the request that waits, if any: it "is
+    /// granted in the very step whose release leaves enough free pages".
+    pub fn give_back(&mut self, packet: PacketNumber) {
+        self.packets.release(packet);
+        if let Some(pages) = self.registers.waiting {
+            self.allocate(pages);
+        }
+    }
+
+    /// "40h frees all pages, empties all FIFOs, sets the result to 80h", and
+    /// drops a request that waits.
     fn free_all(&mut self) {
         self.packets.release_all();
         self.empty_fifos();
         self.registers.result = None;
+        self.registers.waiting = None;
     }
 
     fn remove_rx(&mut self) -> Result<PacketNumber, Refusal> {

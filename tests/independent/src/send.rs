@@ -176,10 +176,10 @@ impl Chip {
 
         let length = self.put_out(packet, data, output);
         self.note_end(end, verdict, MacAddress::leading(output));
-        self.write_status(packet);
+        self.write_status(packet); // before its pages can be granted anew
         self.tx.pop();
         if releases {
-            self.packets.release(packet);
+            self.give_back(packet);
         } else {
             self.completion.push(packet);
         }

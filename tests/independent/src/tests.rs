@@ -1,6 +1,7 @@
-//! The cases that document 01 itself names.
+//! The cases that documents 01 and 02 themselves name.
 
 mod streams;
+mod waiting;
 mod watch;
 
 use crate::address::MacAddress;

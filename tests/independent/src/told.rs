@@ -16,7 +16,8 @@ pub fn sum(numbers: impl IntoIterator<Item = u32>) -> u32 {
         .fold(1, |sum, number| (sum * 31 + number) % 65_521)
 }
 
-/// Every register, in the order of the banks; the two latches last.
+/// Every register, in the order of the banks; behind them what has no offset of
+/// its own: the two latches, and the pages that a request waits for, or 0.
 pub fn registers(now: &Registers) -> Vec<u32> {
     let result = now.result.map_or(0x80, PacketNumber::get);
     let words = [now.tcr, now.ephsr, now.rcr, now.ecr].map(u32::from);
@@ -31,6 +32,7 @@ pub fn registers(now: &Registers) -> Vec<u32> {
     all.push(u32::from(now.mask));
     all.extend(now.multicast.map(u32::from));
     all.extend(latches);
+    all.push(now.waiting.unwrap_or(0) as u32);
     all
 }
 

@@ -17,8 +17,9 @@ pub fn allocation(script: &mut Script) {
     for pages in 1..=8 {
         script.allocate(pages);
     }
-    // with a result that is replaced by 80h
-    for pages in 1..=8 {
+    // with a result that is replaced by 80h; each request waits for more than
+    // the one page that is freed next
+    for pages in (1..=8).rev() {
         script.release(0);
         script.allocate(1);
         script.allocate(pages);

@@ -47,6 +47,25 @@ fn streams_move_the_line() {
     }
 }
 
+/// "A state with a waiting request is well formed only if it is for 1 to 8
+/// pages, more than are free, with the result at 80h."
+#[test]
+fn a_request_that_waits_is_well_formed() {
+    for seed in 1..5 {
+        let mut bench = Bench::default();
+        for record in generator::records(seed, 20_000) {
+            let _ = bench.step(&record);
+            let chip = &bench.chip;
+            let Some(pages) = chip.registers.waiting else {
+                continue;
+            };
+            assert!((1..=8).contains(&pages));
+            assert!(pages > chip.packets.free_pages());
+            assert_eq!(chip.registers.result, None);
+        }
+    }
+}
+
 /// Else a program that serves a tail would still print 17.
 #[test]
 fn tails_would_be_answered() {
