@@ -91,6 +91,7 @@ fn count_reset(tables: &mut Tables, before: &Chip) {
         ("control", now.control != 0),
         ("packet number", now.packet_number != 0),
         ("result", now.result.is_some()),
+        ("waiting request", now.waiting.is_some()),
         ("pointer", now.pointer != fresh.pointer),
         ("TX EMPTY clear", !now.tx_empty),
         ("RX_OVRN", now.rx_overrun),

@@ -21,7 +21,7 @@ pub fn count(tables: &mut Tables, seen: &Seen, value: u8) {
     }
 }
 
-fn command_name(value: u8) -> String {
+pub fn command_name(value: u8) -> String {
     match value {
         0x00 | 0x20..=0x27 | 0x40 | 0x60 | 0x80 | 0xa0 | 0xc0 | 0xe0 => format!("{value:02x}h"),
         _ => "reserved".into(),
@@ -29,7 +29,7 @@ fn command_name(value: u8) -> String {
 }
 
 /// The names of those that hold.
-fn those(met: &[(bool, &'static str)]) -> Vec<&'static str> {
+pub fn those(met: &[(bool, &'static str)]) -> Vec<&'static str> {
     let holding = met.iter().filter(|(holds, _)| *holds);
     holding.map(|(_, name)| *name).collect()
 }
@@ -53,6 +53,7 @@ fn clearing_meets(before: &Chip) -> Vec<&'static str> {
     those(&[
         (before.packets.free_pages() < 24, "pages"),
         (before.registers.result.is_some(), "result"),
+        (before.registers.waiting.is_some(), "waiting request"),
         (!before.rx.is_empty(), "RX"),
         (!before.tx.is_empty(), "TX"),
         (!before.completion.is_empty(), "completion"),

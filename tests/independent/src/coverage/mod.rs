@@ -8,6 +8,7 @@ mod frames;
 mod sends;
 mod states;
 mod tables;
+mod waiting;
 
 use std::fmt;
 
@@ -35,6 +36,7 @@ impl Seen<'_> {
 #[derive(Default)]
 pub struct Coverage {
     bench: Bench,
+    history: waiting::History,
     tables: Tables,
 }
 
@@ -42,6 +44,7 @@ impl Coverage {
     /// All records of a stream, from power-up on.
     pub fn stream(&mut self, records: &[Record]) {
         self.bench = Bench::default();
+        self.history = waiting::History::default();
         for record in records {
             self.step(record);
         }
@@ -65,6 +68,7 @@ impl Coverage {
             7 => sends::count(tables, &seen),
             _ => {}
         }
+        waiting::count(tables, &mut self.history, &seen);
         states::count(tables, &self.bench.chip);
     }
 

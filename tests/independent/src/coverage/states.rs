@@ -15,6 +15,7 @@ fn count_states(tables: &mut Tables, chip: &Chip) {
     let status = chip.interrupt_status();
     let states = [
         ("no page free", chip.packets.free_pages() == 0),
+        ("a request waits", chip.registers.waiting.is_some()),
         ("8 or more in RX", chip.rx.len() >= 8),
         ("3 or more in TX", chip.tx.len() >= 3),
         ("completion full", chip.completion.is_full()),
