@@ -11,10 +11,12 @@ mod registers;
 mod resets;
 mod script;
 mod sends;
+mod waiting;
 
 use crate::bench::Record;
 use crate::chip::control;
 use script::Script;
+use waiting::Giver;
 
 type Scenario = fn(&mut Script);
 
@@ -28,6 +30,18 @@ const SCENARIOS: &[(&str, Scenario)] = &[
     ("resets", resets::play),
     ("allocation", commands::allocation),
     ("queues", commands::queues),
+    ("waiting-released", |script| {
+        waiting::granted(script, Giver::Release)
+    }),
+    ("waiting-received", |script| {
+        waiting::granted(script, Giver::RemoveAndRelease)
+    }),
+    ("waiting-sent", |script| {
+        waiting::granted(script, Giver::Send)
+    }),
+    ("waiting-sizes", waiting::sizes),
+    ("waiting-meetings", waiting::meetings),
+    ("waiting-dropped", waiting::dropped),
     ("data-packet", data::packet),
     ("data-received", data::received),
     ("data-wrapping", data::wrapping),
