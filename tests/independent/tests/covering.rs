@@ -1,20 +1,46 @@
-//! The covering streams against the list of cells that they are made for.
+//! The covering streams against the list of cells that they are made for, and
+//! the generated ones against the covering ones.
 
 use std::collections::BTreeSet;
 
+use independent::bench::Record;
 use independent::coverage::{single_cells, Coverage};
-use independent::covering;
+use independent::{covering, generator};
+
+/// The cells that streams reach, each from power-up.
+fn reached(streams: impl Iterator<Item = Vec<Record>>) -> BTreeSet<String> {
+    let mut coverage = Coverage::default();
+    for records in streams {
+        coverage.stream(&records);
+    }
+    single_cells(coverage.cells().iter().map(String::as_str))
+}
+
+fn covered() -> BTreeSet<String> {
+    reached(covering::streams().map(|(_, records)| records))
+}
 
 #[test]
 fn every_cell_is_reached() {
-    let mut coverage = Coverage::default();
-    for (_, records) in covering::streams() {
-        coverage.stream(&records);
-    }
-    let reached = coverage.cells();
-    let reached = single_cells(reached.iter().map(String::as_str));
+    let covered = covered();
     let wanted = single_cells(include_str!("../../definitions/cells").lines());
-    let missing: Vec<_> = wanted.difference(&reached).collect();
+    let missing: Vec<_> = wanted.difference(&covered).collect();
+    assert!(missing.is_empty(), "not reached: {missing:#?}");
+}
+
+/// Whatever a waiting request can meet, the streams of tests/compare let it meet.
+#[test]
+fn generated_requests_wait_in_every_way() {
+    let generated = reached(
+        [1, 2]
+            .map(|seed| generator::records(seed, 100_000))
+            .into_iter(),
+    );
+    let covered = covered();
+    let missing: Vec<_> = covered
+        .difference(&generated)
+        .filter(|cell| cell.to_lowercase().contains("waiting request"))
+        .collect();
     assert!(missing.is_empty(), "not reached: {missing:#?}");
 }
 

@@ -6,6 +6,7 @@ mod probe;
 mod receive;
 mod setup;
 mod transmit;
+mod waiting;
 
 use crate::bench::{Bench, Record, RECORD_SIZE};
 use crate::chip::Chip;
@@ -46,6 +47,7 @@ const SCENES: &[Scene] = &[
     (8, Generator::cross_border),
     (4, Generator::wrap_pointer),
     (14, Generator::shuffle_packets),
+    (32, Generator::wait_for_pages),
     (14, Generator::tidy),
     (14, Generator::poke_registers),
     (12, Generator::sweep_bank),

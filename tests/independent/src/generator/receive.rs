@@ -81,7 +81,7 @@ impl Generator {
     }
 
     /// Kind 5 records: six bytes each, or fewer when the frame is short.
-    fn gather(&mut self, destination: MacAddress, length: usize) {
+    pub fn gather(&mut self, destination: MacAddress, length: usize) {
         let even_pieces = length > 200 || !self.random.one_in(8);
         let mut sent = 0;
         while sent < length {

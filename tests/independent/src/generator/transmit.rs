@@ -12,13 +12,17 @@ impl Generator {
             let Some(packet) = self.obtain_packet() else {
                 return self.tidy();
             };
-            self.select_packet(packet.get());
-            if !self.random.one_in(8) {
-                self.load(packet);
-            }
-            self.command(ENQUEUE);
+            self.load_and_enqueue(packet);
         }
         self.send_some();
+    }
+
+    pub fn load_and_enqueue(&mut self, packet: PacketNumber) {
+        self.select_packet(packet.get());
+        if !self.random.one_in(8) {
+            self.load(packet);
+        }
+        self.command(ENQUEUE);
     }
 
     /// Sends what is queued, and enqueues again what has completed.
@@ -159,7 +163,7 @@ impl Generator {
 
     /// Makes the TX head's byte count usable, lest it block the queue: a packet
     /// in TX may still be written.
-    fn repair_head(&mut self) {
+    pub fn repair_head(&mut self) {
         let Some(packet) = self.chip().tx.head() else {
             return;
         };
@@ -225,7 +229,7 @@ impl Generator {
     }
 
     /// A short packet ready to be sent over and over.
-    fn steady_packet(&mut self) -> Option<PacketNumber> {
+    pub fn steady_packet(&mut self) -> Option<PacketNumber> {
         let packet = self.pick_idle().or_else(|| {
             self.command(ALLOCATE);
             self.chip().registers.result
