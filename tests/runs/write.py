@@ -1,5 +1,6 @@
 #!/usr/bin/env python3
-"""Writes crates/bench_runs/stdin and stdout: the cases that document 01 marks "Run", each record with the answer that the paper gives it.
+"""Writes crates/bench_runs/stdin and stdout: the cases that document 01 marks "Run", and how W1 of document 02 lets the last of them go on, each record with the answer that the
+papers give it.
 
 usage: tests/runs/write.py      (in the repository's top folder)
 """
@@ -7,7 +8,7 @@ records, lines = [], []
 
 
 def says(answer, value, *record):
-    """A record, and the answer and value that document 01 gives it."""
+    """A record, and the answer and value that the papers give it."""
     records.append(bytes(record).ljust(8, b"\0"))
     lines.append(f"{len(lines) + 1} {answer} {value:04x}\n")
 
@@ -26,6 +27,31 @@ def frame(length, value):
         count = min(6, length - at)
         says(0, 0, 5, count, *[0xFF] * count)
     says(0, value, 6)
+
+
+def allocate(pages):
+    write_byte(0x00, 0x20 + pages - 1)
+
+
+def release(packet):
+    write_byte(0x02, packet)
+    write_byte(0x00, 0xA0)
+
+
+def enter(bank, offset, value):
+    """A word into a register of another bank, from bank 2 and back."""
+    write_byte(0x0E, bank)
+    write_word(offset, value)
+    write_byte(0x0E, 2)
+
+
+def sees(result, status, free):
+    """What a driver sees of a request, from bank 2: the allocation result, the interrupt status and MIR."""
+    says(0, result, 1, 0x03)
+    says(0, status, 1, 0x0C)
+    write_byte(0x0E, 0)
+    says(0, 0x18 + 256 * free, 2, 0x08)
+    write_byte(0x0E, 2)
 
 
 # "a word at 2,047 of an eight-page packet, AUTO INCR set, gives 10"; the byte there is the last one
@@ -77,6 +103,116 @@ write_byte(0x00, 0x20)
 says(0, 0x80, 1, 0x03)
 write_byte(0x0E, 0)
 says(0, 0x0018, 2, 0x08)
+
+# W1: "01's last run case goes on: after a release of enough pages the result reads the granted number"; one page waits, packets 0 to 2 have eight each
+RX, COMPLETION, TX_EMPTY, ALLOCATION = 0x01, 0x02, 0x04, 0x08
+write_byte(0x0E, 2)
+sees(0x80, TX_EMPTY, 0)
+release(1)
+sees(1, TX_EMPTY + ALLOCATION, 7)  # number 1 and page 8, both just freed
+release(1)
+sees(1, TX_EMPTY + ALLOCATION, 8)  # nothing waits any more, and a release leaves the result
+allocate(1)
+
+# a release of too few pages leaves it waiting, a later one grants
+allocate(7)
+says(0, 3, 1, 0x03)  # pages 9 to 15
+allocate(4)
+sees(0x80, TX_EMPTY, 0)
+release(1)
+sees(0x80, TX_EMPTY, 1)
+release(3)
+sees(1, TX_EMPTY + ALLOCATION, 4)  # the lowest number, and pages 8 to 11
+
+# "A new allocate command replaces a waiting one": with five granted three pages would be left, not two
+allocate(5)
+sees(0x80, TX_EMPTY, 4)
+allocate(6)
+sees(0x80, TX_EMPTY, 4)
+release(1)
+sees(1, TX_EMPTY + ALLOCATION, 2)  # pages 8 to 13
+# and one that is granted at once ends it: the release after it grants nothing
+allocate(5)
+sees(0x80, TX_EMPTY, 2)
+allocate(2)
+sees(3, TX_EMPTY + ALLOCATION, 0)  # pages 14 and 15
+release(1)
+sees(3, TX_EMPTY + ALLOCATION, 6)
+
+# "E0h leaves it"; reserved pages hold no grant back
+allocate(7)
+sees(0x80, TX_EMPTY, 6)
+write_byte(0x00, 0xE0)
+sees(0x80, TX_EMPTY, 6)
+enter(0, 0x0A, 24)
+release(3)
+sees(1, TX_EMPTY + ALLOCATION, 1)  # pages 8 to 14
+enter(0, 0x0A, 0)
+
+# "Frames still take free pages under their old rule": one overtakes the request, and gives back too few
+allocate(2)
+sees(0x80, TX_EMPTY, 1)
+frame(64, 0)
+sees(0x80, RX + TX_EMPTY, 0)
+write_byte(0x00, 0x80)
+sees(0x80, TX_EMPTY, 1)
+release(1)
+sees(1, TX_EMPTY + ALLOCATION, 6)  # pages 8 and 9
+
+# remove-and-release grants, whatever packet the packet number register names; removing alone does not
+allocate(4)
+says(0, 3, 1, 0x03)  # pages 10 to 13
+frame(64, 0)
+frame(64, 0)
+allocate(1)
+sees(0x80, RX + TX_EMPTY, 0)
+write_byte(0x02, 0)
+write_byte(0x00, 0x60)  # packet 4
+sees(0x80, RX + TX_EMPTY, 0)
+write_byte(0x00, 0x80)
+sees(5, TX_EMPTY + ALLOCATION, 0)  # page 15
+
+# a failed send does not grant, a good one with auto release does
+write_byte(0x02, 5)
+write_word(0x06, 0x4002)
+write_word(0x08, 12)  # six bytes of data
+write_word(0x06, 0x400A)
+write_word(0x08, 0)
+enter(1, 0x0C, 0x0800)  # auto release
+allocate(1)
+write_byte(0x00, 0xC0)
+sees(0x80, TX_EMPTY, 0)
+says(0, 6, 7, 5)  # underrun
+sees(0x80, COMPLETION + TX_EMPTY, 0)
+enter(0, 0x00, 0x0001)  # TXENA
+write_byte(0x00, 0xC0)
+says(0, 6, 7, 0)
+sees(5, COMPLETION + TX_EMPTY + ALLOCATION, 0)  # page 15 again; completion holds the failed send
+write_word(0x06, 0x6000)  # AUTO INCR, READ
+says(0, 0x0041, 2, 0x08)  # EPHSR, written before the release: good, to the broadcast address that the frame left there
+says(0, 12, 2, 0x08)
+
+# "40h and a soft reset drop it": a frame's packet, given back then, grants nothing
+allocate(8)
+sees(0x80, COMPLETION + TX_EMPTY, 0)
+write_byte(0x00, 0x40)
+sees(0x80, TX_EMPTY, 24)
+frame(64, 0)
+write_byte(0x00, 0x80)
+sees(0x80, TX_EMPTY, 24)
+for number in range(3):
+    allocate(8)
+    says(0, number, 1, 0x03)
+allocate(8)
+sees(0x80, TX_EMPTY, 0)
+write_byte(0x0E, 0)
+write_word(0x04, 0x8000)
+write_word(0x04, 0x0100)  # RXEN
+frame(64, 0)
+write_byte(0x0E, 2)
+sees(0x80, RX + TX_EMPTY, 23)
+write_byte(0x00, 0x80)
+sees(0x80, TX_EMPTY, 24)
 
 open("crates/bench_runs/stdin", "wb").write(b"".join(records))
 open("crates/bench_runs/stdout", "w").write("".join(lines))
