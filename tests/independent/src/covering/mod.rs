@@ -20,7 +20,8 @@ use waiting::Giver;
 
 type Scenario = fn(&mut Script);
 
-/// Each a stream of its own: antt computes only so much for one theorem.
+/// Each a stream of its own: antt computes only so much for one theorem. Its
+/// place is its seed, so new ones stand last.
 const SCENARIOS: &[(&str, Scenario)] = &[
     ("sweep-0", |script| registers::sweep(script, &[0, 1])),
     ("sweep-2", |script| registers::sweep(script, &[2, 3])),
@@ -30,18 +31,6 @@ const SCENARIOS: &[(&str, Scenario)] = &[
     ("resets", resets::play),
     ("allocation", commands::allocation),
     ("queues", commands::queues),
-    ("waiting-released", |script| {
-        waiting::granted(script, Giver::Release)
-    }),
-    ("waiting-received", |script| {
-        waiting::granted(script, Giver::RemoveAndRelease)
-    }),
-    ("waiting-sent", |script| {
-        waiting::granted(script, Giver::Send)
-    }),
-    ("waiting-sizes", waiting::sizes),
-    ("waiting-meetings", waiting::meetings),
-    ("waiting-dropped", waiting::dropped),
     ("data-packet", data::packet),
     ("data-received", data::received),
     ("data-wrapping", data::wrapping),
@@ -71,6 +60,18 @@ const SCENARIOS: &[(&str, Scenario)] = &[
     ("long-1519", |script| frames::long(script, 1_519)),
     ("long-1532", |script| frames::long(script, 1_532)),
     ("too-long", frames::too_long),
+    ("waiting-released", |script| {
+        waiting::granted(script, Giver::Release)
+    }),
+    ("waiting-received", |script| {
+        waiting::granted(script, Giver::RemoveAndRelease)
+    }),
+    ("waiting-sent", |script| {
+        waiting::granted(script, Giver::Send)
+    }),
+    ("waiting-sizes", waiting::sizes),
+    ("waiting-meetings", waiting::meetings),
+    ("waiting-dropped", waiting::dropped),
 ];
 
 /// Every stream by its name.
