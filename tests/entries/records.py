@@ -7,8 +7,8 @@ TCR, EPHSR, RCR, ECR, MIR, RESERVED, BANK, STATION, LATCHES, CONTROL, POINTER = 
 class Record:
     """The 32 words, the 24 page sets and the 72 bytes of queues of a chip, with every figure that W7 keeps. All registers not given are as after reset."""
 
-    def __init__(self, pages=(), rx=(), tx=(), completion=(), bank=0, packet=0, tcr=0):
-        """Of packets with these pages, given as (number, pages), and these queues."""
+    def __init__(self, pages=(), rx=(), tx=(), completion=(), bank=0, packet=0, tcr=0, result=0x80, waiting=0):
+        """Of packets with these pages, given as (number, pages), and these queues; an allocation waits for so many pages."""
         self.sets = [0] * 24
         for number, own in pages:
             self.sets[number] = bits(own)
@@ -21,7 +21,8 @@ class Record:
         self.words[6], self.words[8], self.words[9] = len(rx), len(tx), len(completion)
         self.words[BANK] = 0x3300 + bank
         self.words[LATCHES] = 4  # TX EMPTY
-        self.words[17] = 0x8000 + packet  # no allocation result
+        self.words[17] = 256 * result + packet
+        self.words[23] = waiting
         self.words[28], self.words[29] = bits(rx) % 65536, bits(rx) // 65536
         self.words[30], self.words[31] = bits(tx) % 65536, bits(tx) // 65536
 

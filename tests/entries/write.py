@@ -119,6 +119,34 @@ def wrong_before():
     damaged("a word that holds nothing", three().word(15, 1))
 
 
+def waiting():
+    """Six pages are free, and an allocation waits for more (W1)."""
+    ask = dict(bank=2, waiting=8)
+    done("MIR while one waits", 1560, three(waiting=7), request(2, MIR))
+    after = Record([(0, [*range(6), 18, 19]), *SIX[1:]], rx=[1], tx=[2], bank=2, result=0)
+    done("granted by 80h: the number and the pages just freed, and the lowest others", 0, three(**ask), command(0x80), after)
+    idle = Record(SIX, rx=[0], packet=1, tx=[2], **ask)
+    after = Record([SIX[0], (1, [*range(6, 12), 18, 19]), SIX[2]], rx=[0], packet=1, tx=[2], bank=2, result=1)
+    done("granted by A0h", 0, idle, command(0xA0), after)
+    few = [(0, range(0, 8)), (1, range(8, 16)), (2, range(16, 18)), (3, range(18, 22))]
+    after = Record([few[0], few[1], few[3]], rx=[0, 1], packet=2, **ask)
+    done("A0h of too few: it waits on", 0, Record(few, rx=[0, 1], packet=2, **ask), command(0xA0), after)
+    refused("A0h refused", 6, three(packet=1, **ask), command(0xA0))
+    done("another that waits in its place", 0, three(**ask), command(0x26), three(bank=2, waiting=7))
+    after = Record([*SIX, (3, [18])], rx=[0, 1], tx=[2], bank=2, result=3)
+    done("one that is granted in its place", 0, three(**ask), command(0x20), after)
+    done("E0h leaves it", 0, three(**ask), command(0xE0), Record(SIX, rx=[0, 1], **ask))
+    done("40h drops it", 0, three(**ask), command(0x40), Record(bank=2))
+    after = Record([*SIX, (3, [18])], rx=[0, 1, 3], tx=[2], waiting=8).word(RCR, RXEN)
+    done("a frame overtakes it", 0, three(waiting=8).word(RCR, RXEN), frame(64), after)
+    damaged("for as many as are free", three(waiting=6))
+    damaged("for nine", three(waiting=9))
+    damaged("for eight, and a bit above", three(waiting=0x0108))
+    damaged("while the result reads 2", three(waiting=8, result=2))
+    damaged("for as many as are free, before 6", three(bank=2, packet=1, waiting=6), command(0xA0))
+    damaged("for one, none allocated", Record(waiting=1))
+
+
 def stored(name, record, asked, after, *words):
     """A frame that is stored, then words of its packet, which is the last of RX: each an address and what is read there."""
     done(name, 0, record, asked, after())
@@ -215,6 +243,11 @@ def sends_done():
     done("a nibble comes to 15", 60, sending().word(ECR, 0x00E0), send(0, 2), sent().word(EPHSR, 0x1000 + SENT + BROADCAST).word(ECR, 0x00F0))
     released = sent(completion=(), pages=SIX[:2])
     done("released", 60, sending().word(CONTROL, AUTO_RELEASE), send(), released.word(CONTROL, AUTO_RELEASE).word(EPHSR, SENT + BROADCAST))
+    granted = Record([*SIX[:2], (2, [*range(12, 18), 18])], rx=[0, 1], tcr=TXENA, result=2)
+    done("released, and granted to one that waits for seven pages", 60, three(tcr=TXENA, waiting=7).word(CONTROL, AUTO_RELEASE), send(),
+         granted.word(CONTROL, AUTO_RELEASE).word(EPHSR, SENT + BROADCAST))
+    done("failed: it waits on", 60, three(tcr=TXENA, waiting=7).word(CONTROL, AUTO_RELEASE), send(1, 16),
+         Record(SIX, rx=[0, 1], completion=[2], waiting=7).word(CONTROL, AUTO_RELEASE).word(EPHSR, 0x0010 + 0x0004 + BROADCAST).word(ECR, 0x0010))
     written(2, 12)
     done("six bytes", 6, sending(), send(), sent().word(EPHSR, SENT + BROADCAST))
     done("six bytes, padded", 60, sending(TXENA + PAD), send(), sent(tcr=TXENA + PAD).word(EPHSR, SENT + BROADCAST))
@@ -226,6 +259,7 @@ def main():
     in_order()
     wrong_figures()
     wrong_before()
+    waiting()
     frames_stored()
     frames_not_stored()
     sends_refused()
