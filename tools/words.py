@@ -42,6 +42,12 @@ def pair(name, at):
     return Register(f"{name} bytes {at} and {at + 1}", f"{name} byte {at}", f"{name} byte {at + 1}")
 
 
+def numbers(unanswered):
+    """Packet number and allocation result, with the words for a result of 80h."""
+    parts = (Part(0, 6, "packet {}"), Part(6, 2, ""), Part(8, 8, "packet {}", {0x80: unanswered}, "result "))
+    return Register("packet number, allocation result", "packet number", "allocation result", parts, HIGH)
+
+
 TCR = bits({0: "TXENA", 7: "PAD_EN", 10: "MON_CSN", 12: "STP_SQET", 15: "FDSE"})
 EPHSR = bits({0: "TX_SUC", 1: "SNGLCOL", 2: "MULCOL", 3: "LTX_MULT", 4: "16COL", 5: "SQET", 6: "LTX_BRD"})
 EPHSR += bits({9: "LATCOL", 10: "LOST_CARR", 12: "CTR_ROL", 15: "TXUNRN"})
@@ -51,7 +57,6 @@ ECR += (Part(8, 4, "deferred {}", {0: ""}), Part(12, 4, "excessively deferred {}
 MIR = (Part(0, 8, "{} pages"), Part(8, 8, "{} free"))
 RESERVED = (Part(0, 8, "{} pages"), Part(8, 8, ""))
 CONTROL = bits({5: "TE ENABLE", 6: "CR ENABLE", 11: "AUTO RELEASE", 14: "RCV_BAD"})
-NUMBERS = (Part(0, 6, "packet {}"), Part(6, 2, ""), Part(8, 8, "packet {}", {0x80: "FAILED"}, "result "))
 HEADS = (Part(0, 8, "packet {}", {0x80: "empty"}, "completion "), Part(8, 8, "packet {}", {0x80: "empty"}, "RX "))
 POINTER = (Part(0, 11, "address {}"), *bits({13: "READ", 14: "AUTO INCR", 15: "RCV"}))
 INTERRUPTS = {0: "RCV", 1: "TX", 2: "TX EMPTY", 3: "ALLOC", 4: "RX_OVRN", 5: "EPH"}
@@ -70,7 +75,7 @@ REGISTERS = {
     **{(1, 0x4 + at): pair("station address", at) for at in (0, 2, 4)},
     (1, 0xC): whole("control", CONTROL),
     (2, 0x0): Register("MMU command", "MMU command", "read-only 0", (), HIGH),
-    (2, 0x2): Register("packet number, allocation result", "packet number", "allocation result", NUMBERS, HIGH),
+    (2, 0x2): numbers("none"),
     (2, 0x4): Register("heads: completion, RX", "completion head", "RX head", HEADS, WORD),
     (2, 0x6): whole("pointer", POINTER),
     **{(2, offset): Register("data", "data", "data") for offset in (0x8, 0xA)},
@@ -97,7 +102,7 @@ COMMANDS = (
     (0xC0, 0xC0, "append {packet} to TX"),
     (0xE0, 0xE0, "empty TX and completion"),
 )
-TAKE_RX_HEAD = (0x40, 0x60, 0x80)
+ALLOCATE, RESET_MMU, RELEASES, TAKE_RX_HEAD = range(0x20, 0x28), 0x40, (0x80, 0xA0), (0x40, 0x60, 0x80)
 
 # the first words of a packet, by address: what its status means is known of the head of RX
 IN_PACKET = {0: whole("status"), 2: whole("byte count", (Part(0, 16, "{}"),))}
