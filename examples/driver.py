@@ -1,5 +1,5 @@
 #!/usr/bin/env python3
-"""Drives the bench over a pipe: reset, allocate, load, send, receive, remove and release.
+"""Drives the bench over a pipe: reset, allocate, load, send, receive, remove and release, and an allocation that waits.
 
 usage: driver.py BENCH        (what tools/build bench prints)
 """
@@ -72,7 +72,40 @@ class Bench:
 
 TCR, RCR, MIR = (0, 0), (0, 4), (0, 8)
 COMMAND, PACKET, RESULT, HEADS, POINTER, DATA, STATUS = (2, 0), (2, 2), (2, 3), (2, 4), (2, 6), (2, 8), (2, 12)
+ALLOC_INT = 0x08
 STATION = bytes([0x02, 0x00, 0x00, 0x12, 0x34, 0x56])
+HEADER = bytes([0xFF] * 6) + STATION + bytes([0x08, 0x00])  # to everybody
+
+
+def load(chip, number, data):
+    """Loads a frame of even length, without FCS, into a packet, and puts that at the end of TX."""
+    chip.write(*PACKET, number)
+    chip.write_word(*POINTER, 0x4000)  # AUTO INCR, write
+    packet = bytes([0, 0]) + (len(data) + 6).to_bytes(2, "little") + data + bytes([0, 0])
+    for at in range(0, len(packet), 2):
+        chip.write_word(*DATA, packet[at] + 256 * packet[at + 1])
+    chip.write(*COMMAND, 0xC0)
+    print(f"enqueued         packet {number}, free pages {chip.read_word(*MIR) >> 8}")
+
+
+def finish(chip):
+    """The send finishes and is told in the completion queue; then its packet is released."""
+    length = chip.send_finishes()
+    done = chip.read_word(*HEADS) & 0xFF
+    print(f"sent             {length} bytes put out, completion head {done}, status {chip.read(*STATUS):02x}h")
+    chip.write(*COMMAND, 0xA0)
+    chip.write(*STATUS, 0x02)  # acknowledge: the completion head goes
+
+
+def send_when_granted(chip, data):
+    """Where too few pages are free, the allocation waits. The release that gives enough back grants it, and ALLOC INT is up."""
+    chip.write(*COMMAND, 0x20 + (len(data) + 5) // 256)
+    print(f"asked            result {chip.read(*RESULT):02x}h, status {chip.read(*STATUS):02x}h")
+    while not chip.read(*STATUS) & ALLOC_INT:
+        chip.write(*COMMAND, 0x80)  # the head of RX, which was read by now
+        print(f"removed          free pages {chip.read_word(*MIR) >> 8}, status {chip.read(*STATUS):02x}h")
+    load(chip, chip.read(*RESULT), data)
+    finish(chip)
 
 
 def main(path):
@@ -88,24 +121,10 @@ def main(path):
     chip.write_word(*RCR, 0x0100)  # RXEN
     print(f"after reset      free pages {chip.read_word(*MIR) >> 8}")
 
-    # allocate one page, load a packet of 20 bytes, enqueue it
+    # allocate one page, load a packet of 20 bytes, enqueue it; it is put out padded to 60
     chip.write(*COMMAND, 0x20)
-    number = chip.read(*RESULT)
-    chip.write(*PACKET, number)
-    chip.write_word(*POINTER, 0x4000)  # AUTO INCR, write
-    data = bytes([0xFF] * 6) + STATION + bytes([0x08, 0x00]) + b"hello!"
-    packet = bytes([0, 0]) + (len(data) + 6).to_bytes(2, "little") + data + bytes([0, 0])
-    for at in range(0, len(packet), 2):
-        chip.write_word(*DATA, packet[at] + 256 * packet[at + 1])
-    chip.write(*COMMAND, 0xC0)
-    print(f"enqueued         packet {number}, free pages {chip.read_word(*MIR) >> 8}")
-
-    # the send finishes: put out padded to 60, and told in the completion queue
-    length = chip.send_finishes()
-    done = chip.read_word(*HEADS) & 0xFF
-    print(f"sent             {length} bytes put out, completion head {done}, status {chip.read(*STATUS):02x}h")
-    chip.write(*COMMAND, 0xA0)
-    chip.write(*STATUS, 0x02)  # acknowledge: the completion head goes
+    load(chip, chip.read(*RESULT), HEADER + b"hello!")
+    finish(chip)
 
     # a frame arrives for this station
     wire = STATION + bytes([2, 0, 0, 0, 0, 1, 0x08, 0x00]) + bytes(range(46)) + bytes(4)
@@ -122,6 +141,12 @@ def main(path):
     # what a slip looks like
     answer, value = chip.record(3, 0x00, 0x80)
     print(f"remove again     refusal {answer}, value {value:04x}h")
+
+    # six frames of 1,000 bytes take all pages, and one of 1,514 is to be sent: it needs those of two of them
+    for _ in range(6):
+        chip.frame(STATION + bytes(994))
+    print(f"six frames       free pages {chip.read_word(*MIR) >> 8}, status {chip.read(*STATUS):02x}h")
+    send_when_granted(chip, HEADER + bytes(1500))
     chip.close()
 
 
