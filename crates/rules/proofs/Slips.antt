@@ -27,12 +27,12 @@ none-waiting : (k : ℕ) (c : Chip) → c .regs .numbers .waiting ≡ 0 → give
 unfolding settle due
 none-waiting k c e = rw e
 
--- 80h is of the RX head, whatever the packet number register says.
-head-given-back : (c : Chip) (k : ℕ) (ks : List ℕ) → c .pool .rx ≡ k ∷ ks → perform removeAndRelease c .chip ≡ giveBack k (inPool (setRx ks) c)
+-- 80h is of the RX head, whatever the packet number register says and whether or not an allocation waits.
+pub head-given-back : (c : Chip) (k : ℕ) (ks : List ℕ) → c .pool .rx ≡ k ∷ ks → perform removeAndRelease c .chip ≡ giveBack k (inPool (setRx ks) c)
 unfolding perform
 head-given-back c k ks e = rw e
 
--- So 80h leaves the pages of every other packet, and gives back every page of this one.
+-- So, where nothing waits, 80h leaves the pages of every other packet, and gives back every page of this one.
 pub head-alone : (c : Chip) (k : ℕ) (ks : List ℕ) → c .pool .rx ≡ k ∷ ks → c .regs .numbers .waiting ≡ 0 → (j : ℕ) → (j ≡ k → ⊥) → pagesAt (perform removeAndRelease c .chip) j ≡ pagesAt c j
 head-alone c k ks e none j d = rw (head-given-back c k ks e, none-waiting k (inPool (setRx ks) c) none) (getD-set-other (c .pool .pages) k j [] [] d)
 
