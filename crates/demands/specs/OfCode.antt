@@ -1,6 +1,6 @@
 -- What the demands say of the rules, carried over to the code: by the board's chip where the board is in order, and by refusal 16 where it is not.
 use mathlib.Core.Path.{_≡_, refl, ap, sym, subst, _∙_}
-use mathlib.Core.Bool.{true}
+use mathlib.Core.Bool.{true, true≢false}
 use mathlib.Core.Logic.{_⊎_}
 use mathlib.Core.List.{List, [], _∷_, _++_, map}
 use Prim.Native.Nat.{ℕ, _+_, _*_, _<_}
@@ -13,7 +13,8 @@ use Rattle.rules.specs.Registers.{Access, read, byte, word}
 use Rattle.rules.specs.Receive.{Frame}
 use Rattle.rules.specs.Send.{Send}
 use Rattle.rules.specs.Step.{Input, driver, frame, sent, lent, step, run}
-use Rattle.laws.specs.Refusals.{refusals, numbers-given, refusal-leaves, sixteen-where, never-seventeen, short-gets-15}
+use Rattle.laws.specs.Sendable.{Reaches, ByCount, told-by-count}
+use Rattle.laws.specs.Refusals.{refusals, Valued, numbers-given, refusal-leaves, refusal-value, sixteen-where, never-seventeen, short-gets-15}
 use Rattle.laws.specs.Accounted.{IsFree, InOne}
 use Rattle.laws.specs.Ledger.{Ledger, Resets, blank, ledgerFrom}
 use Rattle.laws.specs.Loads.{Loads}
@@ -49,15 +50,23 @@ module _ (i : Input) (b : Board) (x : Left) (a : Serves i b x) where
       go (yes g) = as-step (λ k. member k (0 ∷ 16 ∷ refusals i) ≡ true) g (numbers-given 24 i (chipOf b))
       go (no n) = as-refused (λ k. member k (0 ∷ 16 ∷ refusals i) ≡ true) n refl
 
-  pub serves-leaves : (replyTo x .number ≡ 0 → ⊥) → (replyTo x .value ≡ 0) × (x .board ≡ b) × (x .output ≡ lent i)
+  pub serves-leaves : (replyTo x .number ≡ 0 → ⊥) → (x .board ≡ b) × (x .output ≡ lent i)
   serves-leaves h = go (good? b)
     where
-      go : Dec (Good b) → (replyTo x .value ≡ 0) × (x .board ≡ b) × (x .output ≡ lent i)
+      go : Dec (Good b) → (x .board ≡ b) × (x .output ≡ lent i)
       go (yes g) =
           let r = serves-right i b x g a in
           let u = refusal-leaves 24 i (chipOf b) (λ e. h (as-step (λ k. k ≡ 0) g e)) in
-          (ap (λ (y : Reply). y .value) (r .reply) ∙ u .value, one-board (x .board) b (r .good) g (r .chip ∙ u .chip), r .output ∙ u .output)
-      go (no n) = let r = serves-refused i b x n a in (ap (λ (y : Reply). y .value) (r .reply), r .board, r .output)
+          (one-board (x .board) b (r .good) g (r .chip ∙ u .chip), r .output ∙ u .output)
+      go (no n) = let r = serves-refused i b x n a in (r .board, r .output)
+
+  pub serves-values : (replyTo x .number ≡ 0 → ⊥) → Valued (chipOf b) (replyTo x)
+  unfolding member
+  serves-values h = go (good? b)
+    where
+      go : Dec (Good b) → Valued (chipOf b) (replyTo x)
+      go (yes g) = subst (Valued (chipOf b)) (sym (serves-right i b x g a .reply)) (refusal-value 24 i (chipOf b) (λ e. h (as-step (λ k. k ≡ 0) g e)))
+      go (no n) = subst (Valued (chipOf b)) (sym (serves-refused i b x n a .reply)) (record { count = λ m. absurd (true≢false (sym m)); none = λ m. refl })
 
   pub serves-sixteen : (replyTo x .number ≡ 16 → Good b → ⊥) × ((Good b → ⊥) → replyTo x .number ≡ 16)
   serves-sixteen = (
@@ -74,6 +83,9 @@ module _ (i : Input) (b : Board) (x : Left) (a : Serves i b x) where
 
 pub serves-short : (s : Send) (out : List ℕ) (b : Board) (x : Left) → Good b → Serves (sent s out) b x → length out < 2048 → replyTo x .number ≡ 15
 serves-short s out b x g a h = as-step (sent s out) b x a (λ k. k ≡ 15) g (short-gets-15 24 s out (chipOf b) (good-whole b g) h)
+
+pub serves-counts : (s : Send) (out : List ℕ) (b : Board) (x : Left) → Good b → Serves (sent s out) b x → Reaches s (chipOf b) out → ByCount s (chipOf b) (replyTo x)
+serves-counts s out b x g a r = subst (ByCount s (chipOf b)) (sym (serves-right (sent s out) b x g a .reply)) (told-by-count 24 s out (chipOf b) (good-whole b g) r)
 
 -- Demand 2.
 pub serves-pages : (i : Input) (b : Board) (x : Left) → Good b → Serves i b x → (p : ℕ) → p < 24 → IsFree (chipOf (x .board)) p ⊎ InOne (chipOf (x .board)) p

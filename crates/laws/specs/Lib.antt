@@ -2,7 +2,9 @@
 -- What the rules compute: the worked example, the table of document 01, the hash examples of the data sheet.
 pub mod Example
 pub mod EitherSide
--- Sentences of document 01 said of what is seen, and not of how it is made: the bytes that a send puts out, the interrupt status and the line.
+-- Sentences of document 01 said of what is seen, and not of how it is made: which sends are done and which fault in a byte count refuses one, the bytes that a send puts out, the interrupt status and the line.
+pub mod Head
+pub mod Sendable
 pub mod PutOut
 pub mod Counters
 pub mod Line

@@ -1,54 +1,24 @@
--- Document 01, "A send finishes": which sends are done, how many bytes they put out, and which bytes, one by one. Of every chip, well formed or not.
+-- Document 01, "A send finishes": how many bytes a send that is done puts out, and which bytes, one by one. Of every chip, well formed or not.
 use mathlib.Core.Path.{_≡_, refl, ap, sym, _∙_}
-use mathlib.Core.Bool.{Bool, true, false, cond, not, true≢false}
-use mathlib.Core.List.{List, [], _∷_, _++_}
+use mathlib.Core.Bool.{true, false, cond}
+use mathlib.Core.List.{List, _++_}
 use Prim.Native.Nat.{ℕ, zero, suc, _+_, _-_, _*_, _/_, _%_, _≤_, _<_, max}
 use native.Mathlib.Nat.{add-zero}
 use native.Mathlib.Omega.{arith}
-use borrow.Author.Tests.{ltb-false, le-ltb}
-use lib.Dec.{ltb}
 use lib.ListN.{length, getD, drop, replicate, length-append, length-replicate, getD-replicate, List·getD-append}
 use lib.Seq.{getD-append-add, getD-drop}
-use Rattle.rules.specs.Bits.{bit, wordOf, wordAt}
-use Rattle.rules.specs.Chip.{Chip, pagesAt}
+use Rattle.rules.specs.Bits.{bit}
+use Rattle.rules.specs.Chip.{Chip}
 use Rattle.rules.specs.Answers.{Turn, over}
 use Rattle.rules.specs.Packet.{place, getBytes}
-use Rattle.rules.specs.Send.{Send, inLimits, usable, byteCount, sendLength, padded, controlByte, putOut, noPlace, sendHead, ifSendable, byTxHead, finish}
+use Rattle.rules.specs.Send.{Send, byteCount, sendLength, padded, controlByte, putOut, sendHead, finish}
 use Rattle.rules.specs.Tests.{fit}
 use Rattle.rules.specs.Step.{sent, serve, stepOf}
 use Rattle.lists.specs.Bytes.{length-get, length-over}
-use Rattle.lists.specs.Facts.{Decides, is-false, le-decides, eq-decides, _and_}
-use Rattle.wellformed.specs.Cases.{pick, pick-by, pick-unless}
+use Rattle.wellformed.specs.Cases.{pick, pick-unless}
 use Rattle.wellformed.specs.Fit.{Fits, fit-decides}
-
--- the byte at packet address a: it lies at a mod 256 of page a / 256 of the packet's list
-abbrev pub byteAt : List ℕ → List ℕ → ℕ → ℕ
-byteAt pages memory a = getD memory (getD pages (a / 256) 0 * 256 + a % 256) 0
-
--- "Count c at addresses 2 and 3, low byte first"
-abbrev pub countAt : List ℕ → List ℕ → ℕ
-countAt pages memory = byteAt pages memory 2 + 256 * byteAt pages memory 3
-
--- the packet at the head of TX
-abbrev pub headPages : Chip → List ℕ
-headPages c = pagesAt c (getD (c .pool .tx) 0 0)
-
--- what a send is done with, and refused without
-pub record Sendable (s : Send) (c : Chip) (out : List ℕ) : Type 0 where
-  -- refusal 15: "output buffer under 2,048 bytes"
-  pub room : 2048 ≤ length out
-  -- refusal 11: outcome 0 to 5, "collisions (16 with outcome 1, else 0 to 15), deferral (0, 1 deferred, 2 excessive)"
-  pub known : s .outcome ≤ 5
-  pub sixteen : s .outcome ≡ 1 → s .collisions ≡ 16
-  pub fewer : (s .outcome ≡ 1 → ⊥) → s .collisions ≤ 15
-  pub deferred : s .deferral ≤ 2
-  -- refusal 12: "TXENA clear, or TX FIFO empty"
-  pub enabled : bit 0 (c .regs .sending .tcr) ≡ true
-  pub waiting : 1 ≤ length (c .pool .tx)
-  -- refusal 13: the count "must be even, at least 12, within the pages"
-  pub evenCount : bit 0 (countAt (headPages c) (c .memory)) ≡ false
-  pub least : 12 ≤ countAt (headPages c) (c .memory)
-  pub within : countAt (headPages c) (c .memory) ≤ 256 * length (headPages c)
+use Rattle.laws.specs.Head.{byteAt, countAt, headPages, count-is}
+use Rattle.laws.specs.Sendable.{served}
 
 -- what a send of the packet with these pages puts out into the buffer `out`
 pub record PutsOut (tcr : ℕ) (pages memory out : List ℕ) (t : Turn) : Type 0 where
@@ -120,23 +90,19 @@ module _ (tcr : ℕ) (bytes : List ℕ) where
 
 -- The packet's bytes as the rules name them.
 module _ (pages memory : List ℕ) where
-  count-is : byteCount pages memory ≡ countAt pages memory
-  unfolding byteCount wordAt wordOf getBytes place
-  count-is = omega arith
-
   abbrev last : ℕ
   last = byteAt pages memory (countAt pages memory - 1)
 
   control-is : controlByte (byteCount pages memory) pages memory ≡ last
   unfolding controlByte getBytes place
-  control-is = ap (λ (x : ℕ). byteAt pages memory (x - 1)) count-is
+  control-is = ap (λ (x : ℕ). byteAt pages memory (x - 1)) (count-is pages memory)
 
   abbrev dataLength : ℕ
   dataLength = sendLength (byteCount pages memory) (controlByte (byteCount pages memory) pages memory)
 
   length-is : dataLength ≡ cond (bit 5 last) (countAt pages memory - 5) (countAt pages memory - 6)
   unfolding sendLength
-  length-is = rw (control-is, count-is)
+  length-is = rw (control-is, count-is pages memory)
 
   length-below : dataLength ≤ countAt pages memory
   length-below = rw length-is (pick (λ (n : ℕ). n ≤ countAt pages memory) (bit 5 last) (omega arith) (omega arith))
@@ -161,89 +127,14 @@ turn-puts-out tcr pages memory out t value output room within =
       whole = λ h. ap length output ∙ length-over (padded tcr bytes) out (omega (arith, padded-room tcr bytes (omega (arith, n, length-below pages memory))));
     }
 
--- The tests of a send, as what they ask.
-limits : (s : Send) → Decides (inLimits s) (((s .outcome ≤ 5) × ((s .outcome ≡ 1 → s .collisions ≡ 16) × ((s .outcome ≡ 1 → ⊥) → s .collisions ≤ 15))) × (s .deferral ≤ 2))
-unfolding inLimits
-limits s = le-decides (s .outcome) 5 and by-one (eq-decides (s .outcome) 1) (eq-decides (s .collisions) 16) (le-decides (s .collisions) 15) and le-decides (s .deferral) 2
-  where
-    by-one : {a b d : Bool} {P Q R : Type 0} → Decides a P → Decides b Q → Decides d R → Decides (cond a b d) ((P → Q) × ((P → ⊥) → R))
-    by-one {a = true} p q r = record { sound = λ t. (λ x. q .sound t, λ n. absurd (n (p .sound refl))); complete = λ w. q .complete (w .0 (p .sound refl)) }
-    by-one {a = false} p q r = record { sound = λ t. (λ x. absurd (true≢false (sym (p .complete x))), λ n. r .sound t); complete = λ w. r .complete (w .1 (λ x. true≢false (sym (p .complete x)))) }
-
-usable-count : (count pageCount : ℕ) → Decides (usable count pageCount) (((bit 0 count ≡ false) × (12 ≤ count)) × (count ≤ 256 * pageCount))
-unfolding usable
-usable-count count pageCount = is-false (bit 0 count) and le-decides 12 count and le-decides count (256 * pageCount)
-
--- what is known of a turn that is done: it sent the head of TX
-record Served (s : Send) (c : Chip) (out : List ℕ) (t : Turn) : Type 0 where
-  head : t ≡ sendHead s (getD (c .pool .tx) 0 0) (drop 1 (c .pool .tx)) c out
-  sendable : Sendable s c out
-
-abbrev IfDone : Send → Chip → List ℕ → Turn → Type 0
-IfDone s c out t = t .reply .number ≡ 0 → Served s c out t
-
 module _ (s : Send) (c : Chip) (out : List ℕ) where
-  not-done : {t : Turn} (n : ℕ) → t .reply .number ≡ suc n → IfDone s c out t
-  not-done n e d = absurd (omega arith)
-
-  head-served : 2048 ≤ length out → inLimits s ≡ true → bit 0 (c .regs .sending .tcr) ≡ true → (l : List ℕ) → c .pool .tx ≡ l → IfDone s c out (byTxHead s l c out)
-  unfolding ifSendable
-  head-served room i b [] e = not-done 11 refl
-  head-served room i b (k ∷ ks) e =
-      let P = IfDone s c out in
-      let w = limits s .sound i in
-      pick-unless P (usable (byteCount (pagesAt c k) (c .memory)) (length (pagesAt c k))) (λ u. not-done 12 refl)
-      (λ u. pick-by P (noPlace s c) (λ f. not-done 13 refl)
-      (λ f d. let q = usable-count (countAt (pagesAt c k) (c .memory)) (length (pagesAt c k)) .sound (rw (count-is (pagesAt c k) (c .memory)) at u) in
-      record {
-        head = ap (λ (l : List ℕ). sendHead s (getD l 0 0) (drop 1 l) c out) (sym e);
-        sendable = record {
-          room = room;
-          known = w .0 .0;
-          sixteen = w .0 .1 .0;
-          fewer = w .0 .1 .1;
-          deferred = w .1;
-          enabled = b;
-          waiting = rw e (omega arith);
-          evenCount = rw e (q .0 .0);
-          least = rw e (q .0 .1);
-          within = rw e (q .1);
-        };
-      }))
-
-  served : IfDone s c out (finish s c out)
-  unfolding finish
-  served =
-      let P = IfDone s c out in
-      pick-by P (ltb (length out) 2048) (λ e. not-done 14 refl)
-      (λ e. pick-unless P (inLimits s) (λ l. not-done 10 refl)
-      (λ l. pick-unless P (bit 0 (c .regs .sending .tcr)) (λ b. not-done 11 refl) (λ b. head-served (ltb-false (length out) 2048 e) l b (c .pool .tx) refl)))
-
-  -- A send that is done was sendable, and one that is sendable and has a place is done.
-  pub done-sendable : finish s c out .reply .number ≡ 0 → Sendable s c out
-  done-sendable d = served d .sendable
-
-  head-done : (l : List ℕ) → c .pool .tx ≡ l → Sendable s c out → noPlace s c ≡ false → byTxHead s l c out .reply .number ≡ 0
-  unfolding ifSendable sendHead
-  head-done [] e w f = absurd (omega (arith, w .waiting, ap length e))
-  head-done (k ∷ ks) e w f =
-      let pages = pagesAt c k in
-      let q : ((bit 0 (countAt pages (c .memory)) ≡ false) × (12 ≤ countAt pages (c .memory))) × (countAt pages (c .memory) ≤ 256 * length pages) = ((rw e at (w .evenCount), rw e at (w .least)), rw e at (w .within)) in
-      let u : usable (byteCount pages (c .memory)) (length pages) ≡ true = rw (count-is pages (c .memory)) (usable-count (countAt pages (c .memory)) (length pages) .complete q) in
-      rw (u, f)
-
-  pub sendable-done : Sendable s c out → noPlace s c ≡ false → finish s c out .reply .number ≡ 0
-  unfolding finish
-  sendable-done w f =
-      rw (le-ltb (length out) 2048 (w .room), limits s .complete ((w .known, (w .sixteen, w .fewer)), w .deferred), w .enabled) (head-done (c .pool .tx) refl w f)
-
   -- A send that is done puts out the packet at the head of TX, on every chip and whatever its outcome.
   finish-puts-out : finish s c out .reply .number ≡ 0 → PutsOut (c .regs .sending .tcr) (headPages c) (c .memory) out (finish s c out)
   unfolding sendHead
   finish-puts-out d =
-      let w = served d in
+      let w = served s c out d in
       let q = w .sendable in
-      turn-puts-out (c .regs .sending .tcr) (headPages c) (c .memory) out (finish s c out) (ap (λ (t : Turn). t .reply .value) (w .head)) (ap (λ (t : Turn). t .output) (w .head)) (q .room) (q .within)
+      turn-puts-out (c .regs .sending .tcr) (headPages c) (c .memory) out (finish s c out) (ap (λ (t : Turn). t .reply .value) (w .head)) (ap (λ (t : Turn). t .output) (w .head)) (q .reaches .room) (q .within)
 
 -- "failed sends put out the same bytes": any two sends that are done, whatever their outcomes, give the same value and the same output.
 finish-alike : (s other : Send) (c : Chip) (out : List ℕ) → finish s c out .reply .number ≡ 0 → finish other c out .reply .number ≡ 0

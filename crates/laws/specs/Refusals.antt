@@ -1,6 +1,7 @@
--- "A refusal returns value 0 and changes nothing": of every input, on every chip, well formed or not; and which numbers an input may get.
+-- "A refusal returns value 0 and changes nothing", as document 02's W2 amends it: every refusal changes nothing, with no exception; its value is 0 but in 13, 18 and 19, where it is the byte count.
+-- Both of every input, on every chip, well formed or not; and which numbers an input may get.
 use mathlib.Core.Path.{_≡_, refl, ap, sym, _∙_}
-use mathlib.Core.Bool.{true, false, true≢false}
+use mathlib.Core.Bool.{true, false, cond, true≢false}
 use mathlib.Core.List.{List, [], _∷_}
 use Prim.Native.Nat.{ℕ, _<_}
 use borrow.Author.Tests.{lt-ltb}
@@ -8,19 +9,21 @@ use lib.Dec.{eqb, leb, ltb}
 use lib.ListN.{length}
 use Rattle.rules.specs.Bits.{lowByte}
 use Rattle.rules.specs.Lists.{member}
-use Rattle.rules.specs.Chip.{Chip, free}
-use Rattle.rules.specs.Answers.{Effect, Turn, refuse, refused, leaving}
+use Rattle.rules.specs.Chip.{Chip, pagesAt, free}
+use Rattle.rules.specs.Answers.{Reply, Effect, Turn, refusalWith, refuse, refusedWith, leaving}
 use Rattle.rules.specs.Mmu.{Command, nothing, allocate, reset, removeRx, removeAndRelease, release, enqueue, resetTx, unknown, decode, perform}
 use Rattle.rules.specs.Data.{readData, writeData}
 use Rattle.rules.specs.Registers.{Lanes, Register, TCR, EPHSR, RCR, ECR, MIR, RESERVED, STATION, CONTROL, COMMAND, PACKET, HEADS, POINTER, DATA, INTERRUPT, TABLE, BANK, UNUSED, ABSENT, bytesOf, lowOnly, readRegister, writeRegister, Width, read, write, misplaced, registerAt, lanesAt, access}
 use Rattle.rules.specs.Receive.{Frame, arrive}
-use Rattle.rules.specs.Send.{Send, sendHead, finish}
+use Rattle.rules.specs.Send.{Send, byteCount, sendHead, finish}
 use Rattle.rules.specs.Step.{Input, driver, frame, sent, lent, serve, stepOf}
 use Rattle.lists.specs.Facts.{or-true}
 use Rattle.wellformed.specs.Cases.{pick, by-head, by-idle, by-packet, by-tests, by-lanes, by-read, by-send, by-step}
 use Rattle.wellformed.specs.Fit.{Fits, step-fit, step-unfit}
+use Rattle.laws.specs.Head.{headCount, count-is}
 
--- Document 01's numbers for each kind of input, besides 0 and 16: "accesses .. 1, 2, 3, then for commands 4, 7, 5, 6 and for data 7 or 5, 8, 9, 10. Frames .. 11. Sends .. 15, 11, 12, 13, 14."
+-- Document 01's numbers for each kind of input, besides 0 and 16: "accesses .. 1, 2, 3, then for commands 4, 7, 5, 6 and for data 7 or 5, 8, 9, 10. Frames .. 11. Sends .. 15, 11, 12,
+-- 13, 14.", and document 02's 18 and 19 "where 13 stood".
 -- A read meets neither 3 nor a command's 4 and 6. 17 is the bench program's alone.
 abbrev pub readRefusals : List ℕ
 readRefusals = 1 ∷ 2 ∷ 5 ∷ 7 ∷ 8 ∷ 9 ∷ 10 ∷ []
@@ -32,18 +35,26 @@ abbrev pub refusals : Input → List ℕ
 refusals (driver (read w o)) = readRefusals
 refusals (driver (write w o v)) = writeRefusals
 refusals (frame f) = 11 ∷ []
-refusals (sent s out) = 11 ∷ 12 ∷ 13 ∷ 14 ∷ 15 ∷ []
+refusals (sent s out) = 11 ∷ 12 ∷ 13 ∷ 14 ∷ 15 ∷ 18 ∷ 19 ∷ []
+
+-- "the offending count as the answer's value in all three": document 02's "13 odd, 18 under 12, 19 past the pages"
+abbrev pub countRefusals : List ℕ
+countRefusals = 13 ∷ 18 ∷ 19 ∷ []
 
 -- A result that answers 0, or is the refusal of a number that is among these.
 data Honest {A : Type 0} (number : A → ℕ) (refusing : ℕ → A) (among : List ℕ) : A → Type 0 where
   answers : {a : A} → number a ≡ 0 → Honest number refusing among a
   refuses : (k : ℕ) → member k among ≡ true → Honest number refusing among (refusing k)
 
+-- the refusal of a number, with the value that goes with the number
+abbrev refusing : Chip → ℕ → Reply
+refusing c k = refusalWith k (cond (member k countRefusals) (headCount c) 0)
+
 abbrev HonestEffect : Chip → List ℕ → Effect → Type 0
-HonestEffect c = Honest (λ s. s .reply .number) (λ k. refuse k c)
+HonestEffect c = Honest (λ s. s .reply .number) (λ k. record { reply = refusing c k; chip = c })
 
 abbrev HonestTurn : Chip → List ℕ → List ℕ → Turn → Type 0
-HonestTurn c out = Honest (λ t. t .reply .number) (λ k. refused k c out)
+HonestTurn c out = Honest (λ t. t .reply .number) (λ k. record { reply = refusing c k; chip = c; output = out })
 
 -- Each rule that refuses, on any chip: the commands, the data accesses, the registers, accesses and frames.
 module _ (c : Chip) where
@@ -119,9 +130,18 @@ module _ (c : Chip) where
   unfolding arrive member
   arrives f = pick (HonestEffect c (refusals (frame f))) (ltb (length (f .bytes)) 18) (refuses 11 refl) (answers refl)
 
+  -- a refusal that tells the count of the packet k, the head of TX
+  tells : (s : Send) (out : List ℕ) (n : ℕ) → member n countRefusals ≡ true → member n (refusals (sent s out)) ≡ true
+      → (k : ℕ) (rest : List ℕ) → c .pool .tx ≡ k ∷ rest → HonestTurn c out (refusals (sent s out)) (refusedWith n (byteCount (pagesAt c k) (c .memory)) c out)
+  tells s out n m l k rest e =
+      let v : byteCount (pagesAt c k) (c .memory) ≡ cond (member n countRefusals) (headCount c) 0 = rw m (count-is (pagesAt c k) (c .memory) ∙ rw e refl) in
+      rw v (refuses n l)
+
   sends : (s : Send) (out : List ℕ) → HonestTurn c out (refusals (sent s out)) (finish s c out)
   unfolding sendHead member
-  sends s out = by-send c out (HonestTurn c out (refusals (sent s out))) s (refuses 15 refl) (refuses 11 refl) (refuses 12 refl) (refuses 13 refl) (refuses 14 refl) (λ k rest e f. answers refl)
+  sends s out =
+      by-send c out (HonestTurn c out (refusals (sent s out))) s (refuses 15 refl) (refuses 11 refl) (refuses 12 refl)
+      (tells s out 13 refl refl) (tells s out 18 refl refl) (tells s out 19 refl refl) (refuses 14 refl) (λ k rest e f. answers refl)
 
   -- what an effect has, it has as a turn that is lent no output buffer
   leaves : {among : List ℕ} {s : Effect} → HonestEffect c among s → HonestTurn c [] among (leaving [] s)
@@ -150,26 +170,36 @@ module _ (c : Chip) where
   honest-number (answers e) = rw e refl
   honest-number (refuses k m) = or-true (eqb k 0) m
 
-  honest-refuses : {out among : List ℕ} {t : Turn} → HonestTurn c out among t → (t .reply .number ≡ 0 → ⊥) → t ≡ refused (t .reply .number) c out
+  honest-refuses : {out among : List ℕ} {t : Turn} → HonestTurn c out among t → (t .reply .number ≡ 0 → ⊥) → t ≡ record { reply = refusing c (t .reply .number); chip = c; output = out }
   honest-refuses (answers e) h = absurd (h e)
   honest-refuses (refuses k m) h = refl
 
--- what a refusal leaves, on the chip c with the output buffer out
+-- what a refusal leaves, on the chip c with the output buffer out: all of it
 pub record Unchanged (c : Chip) (out : List ℕ) (t : Turn) : Type 0 where
-  pub value : t .reply .value ≡ 0
   pub chip : t .chip ≡ c
   pub output : t .output ≡ out
+
+-- and the value that it returns: in 13, 18 and 19 the word at addresses 2 and 3 of the packet at the head of TX, in every other 0
+pub record Valued (c : Chip) (r : Reply) : Type 0 where
+  pub count : member (r .number) countRefusals ≡ true → r .value ≡ headCount c
+  pub none : member (r .number) countRefusals ≡ false → r .value ≡ 0
 
 module _ (n : ℕ) (i : Input) (c : Chip) where
   -- A step answers 0, 16 or a number of its kind of input.
   pub numbers-given : member (stepOf n i c .reply .number) (0 ∷ 16 ∷ refusals i) ≡ true
   numbers-given = honest-number c (steps c n i)
 
-  -- A reply other than 0 comes with value 0, and with the chip and the output as they were: at any part size n, so for `step` too.
+  -- A reply other than 0 comes with the chip and the output as they were: at any part size n, so for `step` too.
   pub refusal-leaves : (stepOf n i c .reply .number ≡ 0 → ⊥) → Unchanged c (lent i) (stepOf n i c)
   refusal-leaves h =
       let e = honest-refuses c (steps c n i) h in
-      record { value = ap (λ (t : Turn). t .reply .value) e; chip = ap (λ (t : Turn). t .chip) e; output = ap (λ (t : Turn). t .output) e }
+      record { chip = ap (λ (t : Turn). t .chip) e; output = ap (λ (t : Turn). t .output) e }
+
+  -- Its value goes by its number.
+  pub refusal-value : (stepOf n i c .reply .number ≡ 0 → ⊥) → Valued c (stepOf n i c .reply)
+  refusal-value h =
+      let v = ap (λ (t : Turn). t .reply .value) (honest-refuses c (steps c n i) h) in
+      record { count = λ m. v ∙ rw m refl; none = λ m. v ∙ rw m refl }
 
 -- 16 and 17 are no kind's number.
 sixteen-apart : (i : Input) → member 16 (0 ∷ refusals i) ≡ false

@@ -279,7 +279,7 @@ module _ (n : ℕ) (small : n ≤ 128) (c : Chip) (w : Fits n c) where
     told-send : ToldSend (finish s c out)
     told-send =
         let not-done : (k : ℕ) → ToldSend (refused (suc k) c out) = no (λ x d. inputEntries (sent s out) c x d) in
-        by-send c out ToldSend s (not-done 14) (not-done 10) (not-done 11) (not-done 12) (not-done 13) (λ k rest e f. told-head k rest e)
+        by-send c out ToldSend s (not-done 14) (not-done 10) (not-done 11) (λ k rest e. not-done 12) (λ k rest e. not-done 17) (λ k rest e. not-done 18) (not-done 13) (λ k rest e f. told-head k rest e)
 
   told-serve : (i : Input) → Moves (heldBy c) (heldBy (serve i c .chip)) (entriesOf i c (serve i c))
   unfolding serve entriesOf

@@ -3,9 +3,9 @@
 use mathlib.Core.Path.{_≡_, refl}
 use mathlib.Core.Bool.{Bool, true, false, cond}
 use mathlib.Core.List.{List, [], _∷_}
-use Prim.Native.Nat.{ℕ, zero, suc, _≤_, _<_}
+use Prim.Native.Nat.{ℕ, zero, suc, _*_, _≤_, _<_}
 use native.Mathlib.Omega.{arith}
-use borrow.Author.Tests.{le-leb}
+use borrow.Author.Tests.{le-leb, lt-ltb, le-ltb}
 use lib.ListN.{length, getD, take}
 use lib.Seq.{getD-set-same, getD-set-other}
 use Rattle.rules.specs.Bits.{bit, lowByte, highByte, wordOf, wordAt}
@@ -19,7 +19,7 @@ use Rattle.rules.specs.Crc.{crcBit, crcBits, crcFrom, crc, hash}
 use Rattle.rules.specs.Tests.{ascends, allBelow, apart, noneOwned, pagesGood, queueGood, queuesGood, numbersGood, requestGood, formed, fit}
 use Rattle.rules.specs.Registers.{byte, word, read, write, misplaced, registerAt, lanesAt, taken, headOf, lowOnly, softReset, readRegister, writeRegister, access}
 use Rattle.rules.specs.Receive.{Frame, Arrival, stored, disabled, notAccepted, tooLong, bad, noRoom, countOf, needed, image, after}
-use Rattle.rules.specs.Send.{Send, good, autoRelease, tally, counted, nibble, sendHead}
+use Rattle.rules.specs.Send.{Send, byteCount, good, autoRelease, tally, counted, nibble, sendHead, ifUsable, ifSendable}
 use Rattle.rules.specs.Step.{driver, serve, stepOf, runOf, history}
 
 -- Where nothing waits, pages that are given back are free, and that is all.
@@ -131,3 +131,20 @@ answers-go-on = refl
 pub eight-first : (isRead : Bool) (width : ℕ) (pages : List ℕ) (c : Chip) (e : Effect) → against isRead (c .regs .pointer) ≡ true → ifOpen isRead width pages c e ≡ refuse 8 c
 unfolding ifOpen
 eight-first isRead width pages c e h = rw h
+
+-- The byte count of the packet k at the head of TX, by its fault and with itself as the value: an odd one is 13 before all else, one under 12 is 18, one past the pages 19, and these come before 14.
+module _ (s : Send) (k : ℕ) (rest : List ℕ) (c : Chip) (out : List ℕ) where
+  abbrev count : ℕ
+  count = byteCount (pagesAt c k) (c .memory)
+
+  pub odd-is-13 : bit 0 count ≡ true → ifSendable s k rest c out .reply ≡ record { number = 13; value = count }
+  unfolding ifSendable ifUsable
+  odd-is-13 o = rw o refl
+
+  pub short-is-18 : bit 0 count ≡ false → count < 12 → ifSendable s k rest c out .reply ≡ record { number = 18; value = count }
+  unfolding ifSendable ifUsable
+  short-is-18 e l = rw (e, lt-ltb count 12 l) refl
+
+  pub past-is-19 : bit 0 count ≡ false → 12 ≤ count → 256 * length (pagesAt c k) < count → ifSendable s k rest c out .reply ≡ record { number = 19; value = count }
+  unfolding ifSendable ifUsable
+  past-is-19 e l m = rw (e, le-ltb count 12 l, lt-ltb (256 * length (pagesAt c k)) count m) refl

@@ -1,4 +1,4 @@
--- Document 01, "Numbers the bench prints": what a step answers. "A refusal returns value 0 and changes nothing."
+-- Document 01, "Numbers the bench prints": what a step answers. "A refusal returns value 0 and changes nothing."; in three of them the value is a byte count (document 02, W2).
 use mathlib.Core.List.{List, _++_}
 use Prim.Native.Nat.{ℕ}
 use lib.ListN.{length, drop}
@@ -38,6 +38,13 @@ refuse n c = record { reply = refusal n; chip = c }
 
 abbrev pub refused : ℕ → Chip → List ℕ → Turn
 refused n c out = record { reply = refusal n; chip = c; output = out }
+
+-- a refusal that has a value: as a reply and a turn
+abbrev pub refusalWith : ℕ → ℕ → Reply
+refusalWith n v = record { number = n; value = v }
+
+abbrev pub refusedWith : ℕ → ℕ → Chip → List ℕ → Turn
+refusedWith n v c out = record { reply = refusalWith n v; chip = c; output = out }
 
 -- an effect that leaves the output buffer
 abbrev pub leaving : List ℕ → Effect → Turn

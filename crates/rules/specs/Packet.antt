@@ -3,7 +3,7 @@ use mathlib.Core.List.{List, [], _∷_}
 use Prim.Native.Nat.{ℕ, zero, suc, _+_, _*_, _/_, _%_}
 use lib.ListN.{getD, set}
 
--- where in memory a packet address lies (one past the pages is refused by 10 or 13 before it comes here)
+-- where in memory a packet address lies (one past the pages is refused by 10 or 19 before it comes here)
 unfoldable pub place : List ℕ → ℕ → ℕ
 place pages a = getD pages (a / 256) 0 * 256 + a % 256
 

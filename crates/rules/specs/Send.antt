@@ -1,4 +1,4 @@
--- Document 01, "A send finishes".
+-- Document 01, "A send finishes"; document 02, W2: which fault in the byte count.
 use mathlib.Core.Bool.{Bool, true, false, cond, not, _&&_, _||_}
 use mathlib.Core.List.{List, [], _∷_, _++_}
 use Prim.Native.Nat.{ℕ, _+_, _-_, _*_, _/_, _%_, _^_, min}
@@ -8,7 +8,7 @@ use Rattle.rules.specs.Bits.{bit, clearBit, flag, lowByte, highByte, wor
 use Rattle.rules.specs.Lists.{some?}
 use Rattle.rules.specs.Chip.{Registers, Chip, size, pagesAt}
 use Rattle.rules.specs.Fields.{setTx, setCompletion, inSending, inRegisters, inPool, inMemory}
-use Rattle.rules.specs.Answers.{Turn, refused, over}
+use Rattle.rules.specs.Answers.{Turn, refused, refusedWith, over}
 use Rattle.rules.specs.Packet.{getBytes, putBytes}
 use Rattle.rules.specs.Mmu.{giveBack}
 use Rattle.rules.specs.Receive.{broadcast, group}
@@ -22,10 +22,6 @@ pub record Send : Type 0 where
 -- what is outside is refusal 11; "collisions (16 with outcome 1, else 0 to 15)"
 unfoldable pub inLimits : Send → Bool
 inLimits s = leb (s .outcome) 5 && cond (eqb (s .outcome) 1) (eqb (s .collisions) 16) (leb (s .collisions) 15) && leb (s .deferral) 2
-
--- refusal 13: the count "must be even, at least 12, within the pages"
-unfoldable pub usable : ℕ → ℕ → Bool
-usable count pageCount = not (bit 0 count) && leb 12 count && leb count (256 * pageCount)
 
 -- "Count c at addresses 2 and 3, low byte first"
 unfoldable pub byteCount : List ℕ → List ℕ → ℕ
@@ -144,19 +140,24 @@ sendHead s k rest c out =
 abbrev pub noPlace : Send → Chip → Bool
 noPlace s c = not (autoRelease (good (c .regs .sending .tcr) (s .outcome)) (c .regs)) && leb (size c) (length (c .pool .completion))
 
--- refusal 13, then 14
+-- The count "must be even, at least 12, within the pages". "Refusals: 13 odd, 18 under 12, 19 past the pages; in that order, where 13 stood", with "the offending count as the answer's value in all three".
+unfoldable pub ifUsable : ℕ → ℕ → Chip → List ℕ → Turn → Turn
+ifUsable count pageCount c out t =
+    let fault : ℕ → Turn = λ n. refusedWith n count c out in
+    cond (bit 0 count) (fault 13) (cond (ltb count 12) (fault 18) (cond (ltb (256 * pageCount) count) (fault 19) t))
+
+-- these three, then 14
 unfoldable pub ifSendable : Send → ℕ → List ℕ → Chip → List ℕ → Turn
 ifSendable s k rest c out =
     let pages = pagesAt c k in
-    cond (not (usable (byteCount pages (c .memory)) (length pages))) (refused 13 c out)
-    (cond (noPlace s c) (refused 14 c out) (sendHead s k rest c out))
+    ifUsable (byteCount pages (c .memory)) (length pages) c out (cond (noPlace s c) (refused 14 c out) (sendHead s k rest c out))
 
 -- "The TX head is sent": refusal 12 where TX is empty
 abbrev pub byTxHead : Send → List ℕ → Chip → List ℕ → Turn
 byTxHead s [] c out = refused 12 c out
 byTxHead s (k ∷ ks) c out = ifSendable s k ks c out
 
--- refusals 15, 11, 12, 13, 14, in this order
+-- refusals 15, 11, 12, 13, 18, 19, 14, in this order
 unfoldable pub finish : Send → Chip → List ℕ → Turn
 finish s c out =
     cond (ltb (length out) 2048) (refused 15 c out)

@@ -11,7 +11,7 @@ use Rattle.rules.specs.Bits.{bit, setBit, clearBit, flag, lowByte, highByte}
 use Rattle.rules.specs.Lists.{some?}
 use Rattle.rules.specs.Chip.{Chip}
 use Rattle.rules.specs.Fields.{setTx, inRegisters, inPool}
-use Rattle.rules.specs.Answers.{Turn, refusal, refused}
+use Rattle.rules.specs.Answers.{Turn, refusal, refusalWith, refused, refusedWith}
 use Rattle.rules.specs.Packet.{getBytes, putBytes}
 use Rattle.rules.specs.Mmu.{giveBack}
 use Rattle.rules.specs.Send.{Send, outcomeBits, addressBits, nibbles, anyAt15, tally, newEcr, newEphsr, sentRegisters, retire, statusWritten}
@@ -109,9 +109,12 @@ module _ {isGood : Bool} {s : Send} {bits : ℕ} {w q w′ q′ : List ℕ} (t :
 pub gives-back : {released : Bool} {k : ℕ} {w s q w′ s′ : List ℕ} → released ≡ true → QueuesIn (figures w) q → Alters (giveBack k) w s w′ s′ → Retires released k w s q w′ s′ q
 gives-back {q = q} e o a = rw e (record { chip = a .chip q; sound = alters-sound a q o })
 
--- A refusal: nothing changes.
+-- A refusal: nothing changes, whatever its value.
+pub refuses-with : {t : Turn} {a : Answer} {w s q mem out : List ℕ} (n v : ℕ) → Sound w s q → t ≡ refusedWith n v (view w s q mem) out → replyOf a ≡ refusalWith n v → Sends t a w s q mem out
+refuses-with n v o e p = rw e (record { chip = refl; reply = p; output = refl; sound = o })
+
 pub refuses : {t : Turn} {a : Answer} {w s q mem out : List ℕ} (n : ℕ) → Sound w s q → t ≡ refused n (view w s q mem) out → replyOf a ≡ refusal n → Sends t a w s q mem out
-refuses n o e p = rw e (record { chip = refl; reply = p; output = refl; sound = o })
+refuses n o e p = refuses-with n 0 o e p
 
 -- the same turn in other words
 pub sends-as : {t u : Turn} {a : Answer} {w s q mem out : List ℕ} → t ≡ u → Sends u a w s q mem out → Sends t a w s q mem out

@@ -6,10 +6,9 @@ use Prim.Native.Nat.{ℕ, _*_, _≤_, _<_}
 use native.Mathlib.Omega.{arith}
 use lib.Dec.{leb}
 use lib.ListN.{length, getD}
-use Rattle.rules.specs.Bits.{bit}
 use Rattle.rules.specs.Lists.{some?}
-use Rattle.rules.specs.Send.{Send, inLimits, usable}
-use Rattle.lists.specs.Facts.{is-true, is-false, le-decides, _and_, member-at}
+use Rattle.rules.specs.Send.{Send, inLimits}
+use Rattle.lists.specs.Facts.{is-true, le-decides, _and_, member-at}
 use Rattle.wellformed.specs.Pool.{has-small}
 use Rattle.sets.specs.Views.{pagesOf}
 use Rattle.packet.specs.Room.{Room}
@@ -39,13 +38,6 @@ module _ {w s q : List ℕ} (r : Ready w s q) (h : 0 < word w 8) where
 
     pub room : (mem : List ℕ) → length mem ≡ 6144 → (end : ℕ) → end ≤ 256 * length (pagesOf set) → Room end set mem
     room mem e end b = room-of end set (getD (map pagesOf s) head []) mem p e (r .well .pages .within head) (omega (arith, b, ap length p))
-
--- What a usable count is.
-pub usable-fits : (count pages : ℕ) → usable count pages ≡ true → (12 ≤ count) × (count ≤ 256 * pages)
-unfolding usable
-usable-fits count pages u =
-    let d = (is-false (bit 0 count) and le-decides 12 count and le-decides count (256 * pages)) .sound u in
-    (d .0 .1, d .1)
 
 -- An outcome within the limits is at most 5.
 pub within-few : (s : Send) → inLimits s ≡ true → s .outcome ≤ 5

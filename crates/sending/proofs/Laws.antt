@@ -1,15 +1,16 @@
 -- What a send does, with its tests answered: what the proofs of the code cite in place of the text of `finish`.
 use mathlib.Core.Path.{_≡_, ap, ap₂, sym, _∙_}
-use mathlib.Core.Bool.{Bool, true, false}
+use mathlib.Core.Bool.{Bool, true, false, cond}
 use mathlib.Core.List.{List}
-use Prim.Native.Nat.{ℕ, _≤_, _<_}
+use Prim.Native.Nat.{ℕ, _*_, _≤_, _<_}
 use borrow.Author.Tests.{lt-ltb, le-ltb}
-use lib.ListN.{length, getD}
+use lib.Dec.{ltb}
+use lib.ListN.{length, getD, drop}
 use Rattle.rules.specs.Bits.{bit}
 use Rattle.rules.specs.Chip.{Chip, pagesAt}
-use Rattle.rules.specs.Answers.{Turn, refused, over}
+use Rattle.rules.specs.Answers.{Turn, refused, refusedWith, over}
 use Rattle.lists.specs.Facts.{no-head, head-and-rest}
-use Rattle.rules.specs.Send.{Send, inLimits, usable, byteCount, good, putOut, autoRelease, noPlace, sendHead, ifSendable, byTxHead, finish}
+use Rattle.rules.specs.Send.{Send, inLimits, byteCount, good, putOut, autoRelease, noPlace, sendHead, ifUsable, ifSendable, byTxHead, finish}
 use Rattle.state.specs.declared.Answer.the-variants as answer
 use Rattle.state.specs.Meaning.{replyOf}
 use Rattle.sending.specs.Sends.{Sends, PutsOut, completed, Completes, headSent}
@@ -38,6 +39,12 @@ module _ (s : Send) (c : Chip) (out : List ℕ) where
         unfolding finish
         head-sent h = rw (le-ltb _ _ long, w, e) (ap (λ (l : List ℕ). byTxHead s l c out) (head-and-rest (c .pool .tx) 0 h))
 
+-- a count that a send is done with: neither 13, 18 nor 19
+pub record Usable (count pageCount : ℕ) : Type 0 where
+  pub even : bit 0 count ≡ false
+  pub least : 12 ≤ count
+  pub within : count ≤ 256 * pageCount
+
 -- The head with its pages and its byte count.
 module _ (s : Send) (c : Chip) (out : List ℕ) where
   abbrev isGood : Bool
@@ -58,20 +65,34 @@ module _ (s : Send) (c : Chip) (out : List ℕ) where
     same-count : count ≡ byteCount (pagesAt c head) (c .memory)
     same-count = n ∙ ap (λ (l : List ℕ). byteCount l (c .memory)) p
 
-    usable-same : usable (byteCount (pagesAt c head) (c .memory)) (length (pagesAt c head)) ≡ usable count (length pages)
-    usable-same = sym (ap₂ usable same-count (ap length p))
-
-    pub bad-count : usable count (length pages) ≡ false → headSent s c out ≡ refused 13 c out
+    -- it goes by its count
+    by-its-count : headSent s c out ≡ ifUsable count (length pages) c out (cond (noPlace s c) (refused 14 c out) (sendHead s head (drop 1 (c .pool .tx)) c out))
     unfolding ifSendable
-    bad-count u = rw (usable-same ∙ u)
+    by-its-count = sym (ap₂ (λ (n : ℕ) (l : List ℕ). ifUsable n (length l) c out (cond (noPlace s c) (refused 14 c out) (sendHead s head (drop 1 (c .pool .tx)) c out))) same-count p)
 
-    pub completion-full : usable count (length pages) ≡ true → noPlace s c ≡ true → headSent s c out ≡ refused 14 c out
-    unfolding ifSendable
-    completion-full u f = rw (usable-same ∙ u, f)
+    pub odd-count : bit 0 count ≡ true → headSent s c out ≡ refusedWith 13 count c out
+    unfolding ifUsable
+    odd-count o = by-its-count ∙ rw o
 
-    pub finishes : usable count (length pages) ≡ true → noPlace s c ≡ false → headSent s c out ≡ done pages count
-    unfolding ifSendable sendHead
-    finishes u f = rw (usable-same ∙ u, f) (sym (ap₂ done p same-count))
+    pub short-count : bit 0 count ≡ false → count < 12 → headSent s c out ≡ refusedWith 18 count c out
+    unfolding ifUsable
+    short-count e l = by-its-count ∙ rw (e, lt-ltb count 12 l)
+
+    pub long-count : bit 0 count ≡ false → 12 ≤ count → ltb (256 * length pages) count ≡ true → headSent s c out ≡ refusedWith 19 count c out
+    unfolding ifUsable
+    long-count e l m = by-its-count ∙ rw (e, le-ltb count 12 l, m)
+
+    module _ (u : Usable count (length pages)) where
+      usable : headSent s c out ≡ cond (noPlace s c) (refused 14 c out) (sendHead s head (drop 1 (c .pool .tx)) c out)
+      unfolding ifUsable
+      usable = by-its-count ∙ rw (u .even, le-ltb count 12 (u .least), le-ltb (256 * length pages) count (u .within))
+
+      pub completion-full : noPlace s c ≡ true → headSent s c out ≡ refused 14 c out
+      completion-full f = usable ∙ rw f
+
+      pub finishes : noPlace s c ≡ false → headSent s c out ≡ done pages count
+      unfolding sendHead
+      finishes f = usable ∙ rw f (sym (ap₂ done p same-count))
 
   -- what is put out, and what is done to the chip, are what a send does
   pub sends-all : (count : ℕ) {w s′ q mem out′ pages : List ℕ} {n : ℕ} {released g : Bool} → released ≡ autoRelease isGood (c .regs) → g ≡ isGood

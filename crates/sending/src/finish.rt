@@ -7,7 +7,8 @@ use crate::completion::is_released;
 use crate::completion::retire;
 use crate::event::is_good;
 use crate::event::is_within;
-use crate::output::is_usable;
+use crate::output::LEAST_COUNT;
+use crate::output::is_past;
 use crate::output::put_out;
 use sets::Address;
 use state::Answer;
@@ -49,7 +50,7 @@ fn complete(
     retire(words, sets, queues, head, released);
 }
 
-// The TX head is sent (the rules' `ifSendable`): refusals 13 and 14, and else all that a send does.
+// The TX head is sent (the rules' `ifSendable`): refusals 13, 18 and 19 with its byte count, then 14, and else all that a send does.
 fn send_head(
     words: &mut [u16],
     sets: &mut [u32],
@@ -63,8 +64,14 @@ fn send_head(
 {
     let pages = sets::set_of(sets, pool::tx_head(queues));
     let count = packet::read_word(memory, pages, Address(2));
-    if !is_usable(count, sets::page_count(pages)) {
-        return Answer::BadCount;
+    if bits::is_set(count, 0) {
+        return Answer::OddCount(count);
+    }
+    if count < LEAST_COUNT {
+        return Answer::ShortCount(count);
+    }
+    if is_past(count, sets::page_count(pages)) {
+        return Answer::LongCount(count);
     }
     let good = is_good(words[TCR], s.outcome);
     let released = is_released(good, words[CONTROL]);

@@ -3,10 +3,11 @@ use sets::Address;
 use state::PAGE_BYTES;
 use state::flags;
 ghost use mathlib.Core.Path.{_≡_};
-ghost use Prim.Native.Nat.{_+_, _-_, _≤_};
+ghost use Prim.Native.Nat.{_+_, _-_, _*_, _≤_};
+ghost use lib.Dec.{ltb};
 ghost use lib.ListN.{length, replicate};
 ghost use lib.Seq.{sets};
-ghost use Rattle.rules.specs.Send.{usable, sendLength, putOut};
+ghost use Rattle.rules.specs.Send.{sendLength, putOut};
 ghost use Rattle.sets.specs.Views.{pagesOf};
 ghost use Rattle.packet.specs.Room.{Room};
 ghost use Rattle.sending.specs.Sends.{PutsOut};
@@ -14,18 +15,15 @@ ghost use Rattle.sending.specs.Sends.{PutsOut};
 // Shorter data is padded to this.
 const LEAST: usize = 60;
 
-// The byte count must be even, at least 12, and within the pages: refusal 13 where not.
-pub fn is_usable(count: u16, pages: u32) -> bool
+// A byte count under this is refused with 18: status, count, a destination address, and two bytes behind the data.
+pub const LEAST_COUNT: u16 = 12;
+
+// Is the byte count past the pages: refusal 19.
+pub fn is_past(count: u16, pages: u32) -> bool
     requires { ⌜ pages ≤ 8 ⌝ }
-    ensures { λ r. ⌜ r ≡ usable count pages ⌝ }
+    ensures { λ r. ⌜ r ≡ ltb (256 * pages) count ⌝ }
 {
-    if bits::is_set(count, 0) {
-        return false;
-    }
-    if count < 12 {
-        return false;
-    }
-    count as u32 <= PAGE_BYTES * pages
+    PAGE_BYTES * pages < count as u32
 }
 
 // c - 5 bytes if ODD is set in the control byte, which is at c - 1, else c - 6.

@@ -2,18 +2,18 @@
 use mathlib.Core.Path.{_≡_}
 use mathlib.Core.Bool.{Bool, true, false}
 use Prim.Native.Nat.{ℕ, _/_, _%_}
-use Rattle.rules.specs.Answers.{Reply, refusal}
+use Rattle.rules.specs.Answers.{Reply, refusal, refusalWith}
 use Rattle.rules.specs.Registers as rules
 use Rattle.state.specs.declared.Width.{Width}
 use Rattle.state.specs.declared.Width.the-variants as width
 use Rattle.state.specs.declared.Answer.{Answer}
-use Rattle.state.specs.declared.Answer.the-variants.{Done, Misplaced, NotModelled, ReadOnly, Reserved, NotAllocated, StillQueued, RxEmpty, AgainstRead, OddPointer, PastPages, OutsideLimits, NothingToSend, BadCount, CompletionFull, ShortOutput, Damaged, CutShort}
+use Rattle.state.specs.declared.Answer.the-variants.{Done, Misplaced, NotModelled, ReadOnly, Reserved, NotAllocated, StillQueued, RxEmpty, AgainstRead, OddPointer, PastPages, OutsideLimits, NothingToSend, OddCount, CompletionFull, ShortOutput, Damaged, CutShort, ShortCount, LongCount}
 
 abbrev pub widthOf : Width → rules.Width
 widthOf width.Byte = rules.byte
 widthOf width.Word = rules.word
 
--- document 01's number and value of an answer
+-- document 01's number and value of an answer; 13, 18 and 19 have the byte count as their value (document 02, W2)
 abbrev pub replyOf : Answer → Reply
 replyOf (Done v) = record { number = 0; value = v }
 replyOf Misplaced = refusal 1
@@ -28,11 +28,13 @@ replyOf OddPointer = refusal 9
 replyOf PastPages = refusal 10
 replyOf OutsideLimits = refusal 11
 replyOf NothingToSend = refusal 12
-replyOf BadCount = refusal 13
+replyOf (OddCount v) = refusalWith 13 v
 replyOf CompletionFull = refusal 14
 replyOf ShortOutput = refusal 15
 replyOf Damaged = refusal 16
 replyOf CutShort = refusal 17
+replyOf (ShortCount v) = refusalWith 18 v
+replyOf (LongCount v) = refusalWith 19 v
 
 -- no refusal 1
 abbrev pub Placed : Width → ℕ → Type 0

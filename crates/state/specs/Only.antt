@@ -19,7 +19,7 @@ use Rattle.sets.specs.Lists.{list-at, lists-length}
 use Rattle.queues.specs.Slots.{Slots}
 use Rattle.queues.specs.Parts.{slots, part-long}
 use Rattle.state.specs.declared.Answer.{Answer}
-use Rattle.state.specs.declared.Answer.the-variants.{Done, Misplaced, NotModelled, ReadOnly, Reserved, NotAllocated, StillQueued, RxEmpty, AgainstRead, OddPointer, PastPages, OutsideLimits, NothingToSend, BadCount, CompletionFull, ShortOutput, Damaged, CutShort}
+use Rattle.state.specs.declared.Answer.the-variants.{Done, Misplaced, NotModelled, ReadOnly, Reserved, NotAllocated, StillQueued, RxEmpty, AgainstRead, OddPointer, PastPages, OutsideLimits, NothingToSend, OddCount, CompletionFull, ShortOutput, Damaged, CutShort, ShortCount, LongCount}
 use Rattle.state.specs.declared.Registers.{Registers}
 use Rattle.state.specs.declared.Pages.{Pages}
 use Rattle.state.specs.declared.Queues.{Queues}
@@ -178,11 +178,13 @@ answerOf x =
     ∷ PastPages
     ∷ OutsideLimits
     ∷ NothingToSend
-    ∷ BadCount
+    ∷ OddCount (x .value)
     ∷ CompletionFull
     ∷ ShortOutput
     ∷ Damaged
     ∷ CutShort
+    ∷ ShortCount (x .value)
+    ∷ LongCount (x .value)
     ∷ []) (x .number) Damaged
 
 answer-back : (a : Answer) → answerOf (replyOf a) ≡ a
@@ -200,11 +202,13 @@ answer-back OddPointer = refl
 answer-back PastPages = refl
 answer-back OutsideLimits = refl
 answer-back NothingToSend = refl
-answer-back BadCount = refl
+answer-back (OddCount v) = refl
 answer-back CompletionFull = refl
 answer-back ShortOutput = refl
 answer-back Damaged = refl
 answer-back CutShort = refl
+answer-back (ShortCount v) = refl
+answer-back (LongCount v) = refl
 
 pub one-answer : (a b : Answer) → replyOf a ≡ replyOf b → a ≡ b
 one-answer a b e = sym (answer-back a) ∙ ap answerOf e ∙ answer-back b

@@ -73,12 +73,16 @@ pub enum Answer {
     PastPages,
     OutsideLimits,
     NothingToSend,
-    BadCount,
+    // the byte count, which is odd
+    OddCount(u16),
     CompletionFull,
     ShortOutput,
     Damaged,
     // of the bench program alone
     CutShort,
+    // the byte count, under 12, and past the packet's pages
+    ShortCount(u16),
+    LongCount(u16),
 }
 
 // What the bench prints of an answer: its number and its value.
@@ -101,11 +105,13 @@ pub fn printed(answer: Answer) -> Shown
         Answer::PastPages => Shown(10, 0),
         Answer::OutsideLimits => Shown(11, 0),
         Answer::NothingToSend => Shown(12, 0),
-        Answer::BadCount => Shown(13, 0),
+        Answer::OddCount(count) => Shown(13, count),
         Answer::CompletionFull => Shown(14, 0),
         Answer::ShortOutput => Shown(15, 0),
         Answer::Damaged => Shown(16, 0),
         Answer::CutShort => Shown(17, 0),
+        Answer::ShortCount(count) => Shown(18, count),
+        Answer::LongCount(count) => Shown(19, count),
     }
 }
 

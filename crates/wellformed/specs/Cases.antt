@@ -2,18 +2,18 @@
 use mathlib.Core.Path.{_≡_, refl}
 use mathlib.Core.Bool.{Bool, true, false, cond, not}
 use mathlib.Core.List.{List, [], _∷_}
-use Prim.Native.Nat.{ℕ}
+use Prim.Native.Nat.{ℕ, _*_}
 use lib.Dec.{ltb}
 use lib.ListN.{length}
 use Rattle.rules.specs.Bits.{bit}
 use Rattle.rules.specs.Lists.{member}
 use Rattle.rules.specs.Chip.{Chip, pagesAt, allocated}
 use Rattle.rules.specs.Fields.{inRegisters}
-use Rattle.rules.specs.Answers.{Effect, Turn, doneWith, refuse, refused}
+use Rattle.rules.specs.Answers.{Effect, Turn, doneWith, refuse, refused, refusedWith}
 use Rattle.rules.specs.Mmu.{grant, due, settle, queued, ifIdle, ifHead}
 use Rattle.rules.specs.Data.{rcv, against, oddFixed, past, ifPacket, ifOpen, readData}
 use Rattle.rules.specs.Registers.{Lanes, low, high, both, Register, TCR, EPHSR, RCR, ECR, MIR, RESERVED, STATION, CONTROL, COMMAND, PACKET, HEADS, POINTER, DATA, INTERRUPT, TABLE, BANK, UNUSED, ABSENT, width, clearEcr, lowOnly, readRegister}
-use Rattle.rules.specs.Send.{Send, inLimits, usable, byteCount, noPlace, sendHead, ifSendable, byTxHead, finish}
+use Rattle.rules.specs.Send.{Send, inLimits, byteCount, noPlace, sendHead, ifUsable, ifSendable, byTxHead, finish}
 use Rattle.rules.specs.Tests.{fit}
 use Rattle.rules.specs.Step.{Input, lent, serve, stepOf}
 use Rattle.lists.specs.Facts.{or-left, or-right}
@@ -97,18 +97,29 @@ module _ (c : Chip) (P : Effect → Type 0) where
 
 -- The same of turns, beside an output buffer.
 module _ (c : Chip) (out : List ℕ) (P : Turn → Type 0) where
-  -- refusals 15, 11, 12, 13 and 14, else the head of TX is sent
-  pub by-send : (s : Send) → P (refused 15 c out) → P (refused 11 c out) → P (refused 12 c out) → P (refused 13 c out) → P (refused 14 c out)
+  -- refusals 13, 18 and 19, each of which tells the count
+  pub by-count : (count pageCount : ℕ) (t : Turn) → P (refusedWith 13 count c out) → P (refusedWith 18 count c out) → P (refusedWith 19 count c out)
+      → (bit 0 count ≡ false → ltb count 12 ≡ false → ltb (256 * pageCount) count ≡ false → P t) → P (ifUsable count pageCount c out t)
+  unfolding ifUsable
+  by-count count pageCount t r13 r18 r19 h =
+      pick-by P (bit 0 count) (λ o. r13) (λ o. pick-by P (ltb count 12) (λ l. r18) (λ l. pick-by P (ltb (256 * pageCount) count) (λ m. r19) (h o l)))
+
+  -- what has to be shown of a refusal that tells the count: the packet is the head of TX
+  abbrev pub Tells : ℕ → Type 0
+  Tells n = (k : ℕ) (rest : List ℕ) → c .pool .tx ≡ k ∷ rest → P (refusedWith n (byteCount (pagesAt c k) (c .memory)) c out)
+
+  -- refusals 15, 11, 12, 13, 18, 19 and 14, else the head of TX is sent
+  pub by-send : (s : Send) → P (refused 15 c out) → P (refused 11 c out) → P (refused 12 c out) → Tells 13 → Tells 18 → Tells 19 → P (refused 14 c out)
       → ((k : ℕ) (rest : List ℕ) → c .pool .tx ≡ k ∷ rest → noPlace s c ≡ false → P (sendHead s k rest c out)) → P (finish s c out)
   unfolding finish ifSendable
-  by-send s r15 r11 r12 r13 r14 h =
+  by-send s r15 r11 r12 r13 r18 r19 r14 h =
       pick P (ltb (length out) 2048) r15
-      (pick-unless P (inLimits s) (λ l. r11) (λ l. pick-unless P (bit 0 (c .regs .sending .tcr)) (λ e. r12) (λ e. by-tx-head (c .pool .tx) h)))
+      (pick-unless P (inLimits s) (λ l. r11) (λ l. pick-unless P (bit 0 (c .regs .sending .tcr)) (λ e. r12) (λ e. by-tx-head (c .pool .tx) refl)))
     where
-      by-tx-head : (l : List ℕ) → ((k : ℕ) (rest : List ℕ) → l ≡ k ∷ rest → noPlace s c ≡ false → P (sendHead s k rest c out)) → P (byTxHead s l c out)
-      by-tx-head [] f = r12
-      by-tx-head (k ∷ rest) f =
-          pick-unless P (usable (byteCount (pagesAt c k) (c .memory)) (length (pagesAt c k))) (λ u. r13) (λ u. pick-by P (noPlace s c) (λ t. r14) (f k rest refl))
+      by-tx-head : (l : List ℕ) → c .pool .tx ≡ l → P (byTxHead s l c out)
+      by-tx-head [] e = r12
+      by-tx-head (k ∷ rest) e =
+          by-count (byteCount (pagesAt c k) (c .memory)) (length (pagesAt c k)) _ (r13 k rest e) (r18 k rest e) (r19 k rest e) (λ o l m. pick-by P (noPlace s c) (λ t. r14) (h k rest e))
 
 -- refusal 16, else by the input
 pub by-step : (c : Chip) (P : Turn → Type 0) (n : ℕ) (i : Input) → P (refused 16 c (lent i)) → P (serve i c) → P (stepOf n i c)

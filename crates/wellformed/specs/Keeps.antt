@@ -211,7 +211,7 @@ module _ (n : ℕ) (c : Chip) (w : Fits n c) where
 
   pub keeps-send : (s : Send) (out : List ℕ) → Turned (finish s c out)
   keeps-send s out =
-      by-send c out Turned s w w w w w
+      by-send c out Turned s w w w (λ k rest e. w) (λ k rest e. w) (λ k rest e. w) w
       (λ k rest e f. keeps-head s k rest out e
       (λ b. omega (arith, leb-false (size c) (length (c .pool .completion)) (open-place (autoRelease (good (c .regs .sending .tcr) (s .outcome)) (c .regs)) _ f b), w .0 .count)))
 

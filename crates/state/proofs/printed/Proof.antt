@@ -10,60 +10,6 @@ use Rattle.state.proofs.printed.Tie as tie
 as-told : {a b : Answer} → a ≡ b → (replyOf b .number ≡ replyOf a .number) × (replyOf b .value ≡ replyOf a .value)
 as-told e = (sym (ap (λ (x : Answer). replyOf x .number) e), sym (ap (λ (x : Answer). replyOf x .value) e))
 
-returns : tie.Need-returns
-returns c = as-told (c .before .answer .given .1)
-
-returns-2 : tie.Need-returns-2
-returns-2 c = as-told (c .enum-told .given .1)
-
-returns-3 : tie.Need-returns-3
-returns-3 c = as-told (c .enum-told2 .given .1)
-
-returns-4 : tie.Need-returns-4
-returns-4 c = as-told (c .enum-told3 .given .1)
-
-returns-5 : tie.Need-returns-5
-returns-5 c = as-told (c .enum-told4 .given .1)
-
-returns-6 : tie.Need-returns-6
-returns-6 c = as-told (c .enum-told5 .given .1)
-
-returns-7 : tie.Need-returns-7
-returns-7 c = as-told (c .enum-told6 .given .1)
-
-returns-8 : tie.Need-returns-8
-returns-8 c = as-told (c .enum-told7 .given .1)
-
-returns-9 : tie.Need-returns-9
-returns-9 c = as-told (c .enum-told8 .given .1)
-
-returns-10 : tie.Need-returns-10
-returns-10 c = as-told (c .enum-told9 .given .1)
-
-returns-11 : tie.Need-returns-11
-returns-11 c = as-told (c .enum-told10 .given .1)
-
-returns-12 : tie.Need-returns-12
-returns-12 c = as-told (c .enum-told11 .given .1)
-
-returns-13 : tie.Need-returns-13
-returns-13 c = as-told (c .enum-told12 .given .1)
-
-returns-14 : tie.Need-returns-14
-returns-14 c = as-told (c .enum-told13 .given .1)
-
-returns-15 : tie.Need-returns-15
-returns-15 c = as-told (c .enum-told14 .given .1)
-
-returns-16 : tie.Need-returns-16
-returns-16 c = as-told (c .enum-told15 .given .1)
-
-returns-17 : tie.Need-returns-17
-returns-17 c = as-told (c .enum-told16 .given .1)
-
-returns-18 : tie.Need-returns-18
-returns-18 c = as-told (c .enum-told17 .given .1)
-
 pub printed-spec : {M : Type 1} → statement M
 printed-spec =
     tie.close
@@ -86,21 +32,25 @@ printed-spec =
     (λ c. search needs)
     (λ c. search needs)
     (λ c. search needs)
-    returns
-    returns-2
-    returns-3
-    returns-4
-    returns-5
-    returns-6
-    returns-7
-    returns-8
-    returns-9
-    returns-10
-    returns-11
-    returns-12
-    returns-13
-    returns-14
-    returns-15
-    returns-16
-    returns-17
-    returns-18)
+    (λ c. search needs)
+    (λ c. search needs)
+    (λ c. as-told (c .before .answer .given .1))
+    (λ c. as-told (c .enum-told .given .1))
+    (λ c. as-told (c .enum-told2 .given .1))
+    (λ c. as-told (c .enum-told3 .given .1))
+    (λ c. as-told (c .enum-told4 .given .1))
+    (λ c. as-told (c .enum-told5 .given .1))
+    (λ c. as-told (c .enum-told6 .given .1))
+    (λ c. as-told (c .enum-told7 .given .1))
+    (λ c. as-told (c .enum-told8 .given .1))
+    (λ c. as-told (c .enum-told9 .given .1))
+    (λ c. as-told (c .enum-told10 .given .1))
+    (λ c. as-told (c .enum-told11 .given .1))
+    (λ c. as-told (c .enum-told12 .given .1))
+    (λ c. as-told (c .before .answer2 .given .1))
+    (λ c. as-told (c .enum-told13 .given .1))
+    (λ c. as-told (c .enum-told14 .given .1))
+    (λ c. as-told (c .enum-told15 .given .1))
+    (λ c. as-told (c .enum-told16 .given .1))
+    (λ c. as-told (c .before .answer3 .given .1))
+    (λ c. as-told (c .before .answer4 .given .1)))

@@ -1,26 +1,26 @@
--- The head's pages and its count are the rules' (`paged`, `counted`), and so are both tests (`judged`, `filled`). With these answered the rules' turn is a
--- refusal, or what `put_out` and `complete` have done (`finishes`, `sends-all`).
+-- The head's pages and its count are the rules' (`paged`, `counted`), and so are the tests of the count (`even`, `least`, `judged`) and of completion (`filled`).
+-- With these answered the rules' turn is a refusal, or what `put_out` and `complete` have done (`finishes`, `sends-all`).
 use borrow.Author.Needs.{needs}
 use mathlib.Core.Path.{_≡_, refl, ap, ap₂, sym, _∙_}
-use mathlib.Core.Bool.{Bool, true, false, not, _&&_}
+use mathlib.Core.Bool.{Bool, false, not, _&&_}
 use mathlib.Core.List.{List}
 use Prim.Native.Nat.{ℕ, _*_, _≤_, _<_}
 use native.Mathlib.Omega.{arith}
-use borrow.Author.Tests.{not-true, not-false, leb-false}
-use lib.Dec.{leb}
+use borrow.Author.Tests.{leb-false, ltb-false}
+use lib.Dec.{leb, ltb}
 use lib.ListN.{length, getD}
 use Rattle.rules.specs.Bits.{bit}
 use Rattle.rules.specs.Chip.{Chip, pagesAt}
-use Rattle.rules.specs.Send.{usable, byteCount, good, autoRelease, noPlace}
+use Rattle.rules.specs.Send.{byteCount, good, autoRelease, noPlace}
 use Rattle.lists.specs.Bytes.{value-word}
 use Rattle.sets.specs.Views.{pagesOf}
 use Rattle.packet.specs.Room.{Room}
 use Rattle.state.specs.View.{word, registersIn, view}
 use Rattle.pool.specs.Queues.{head-told}
 use Rattle.sending.specs.Numbers.{sendOf}
-use Rattle.sending.proofs.Facts.{refuses, sends-as}
-use Rattle.sending.proofs.Head.{pages-few, room, usable-fits}
-use Rattle.sending.proofs.Laws.{bad-count, completion-full, finishes, sends-all}
+use Rattle.sending.proofs.Facts.{refuses, refuses-with, sends-as}
+use Rattle.sending.proofs.Head.{pages-few, room}
+use Rattle.sending.proofs.Laws.{Usable, odd-count, short-count, long-count, completion-full, finishes, sends-all}
 use Rattle.sending.proofs.finish.send_head.Statement.{statement}
 use Rattle.sending.proofs.finish.send_head.Tie as tie
 
@@ -28,11 +28,20 @@ use Rattle.sending.proofs.finish.send_head.Tie as tie
 abbrev start : tie.After-set-of → tie.Start
 start o = o .before .before .before .before .before .before .before .before .before
 
-abbrev set-at : tie.After-is-usable → tie.After-set-of
-set-at i = i .before .before .before .before
+abbrev set-at : tie.After-read-word → tie.After-set-of
+set-at r = r .before .before
 
-abbrev else-at : tie.After-is-full → tie.Else1
-else-at f = f .before .before .before .before .before .before
+abbrev word-at : tie.Else1 → tie.After-read-word
+word-at e = e .before .before
+
+abbrev else-at : tie.After-is-past → tie.Else2
+else-at i = i .before .before
+
+abbrev read-at : tie.After-is-past → tie.After-read-word
+read-at i = word-at (else-at i .before)
+
+abbrev past-at : tie.After-is-full → tie.Else3
+past-at f = f .before .before .before .before .before .before
 
 abbrev full-at : tie.After-put-out → tie.After-is-full
 full-at p = p .before .before .before .before .before
@@ -46,8 +55,12 @@ chip s = view (words s) (s .args .sets .now) (s .args .queues .now) (s .args .me
 abbrev pages : tie.After-set-of → List ℕ
 pages o = pagesOf (o .set-of .result)
 
-abbrev count : tie.After-is-usable → ℕ
-count i = i .before .before .read-word .result
+abbrev count : tie.After-read-word → ℕ
+count r = r .read-word .result
+
+-- where the send began, as seen from a test of completion
+abbrev begun : tie.After-is-full → tie.Start
+begun f = start (set-at (read-at (past-at f .before)))
 
 -- is the packet to be released
 abbrev releasing : tie.Start → Bool
@@ -66,81 +79,106 @@ roomy : (o : tie.After-set-of) (end : ℕ) → end ≤ 256 * length (pages o) �
 roomy o end h = room (start o .pre .0) (start o .pre .3) (o .set-of .result) (paged o) (start o .args .memory .now) (start o .pre .1) end h
 
 -- Its byte count, and whether it is usable.
-counted : (i : tie.After-is-usable) → let o = set-at i in count i ≡ byteCount (pages o) (start o .args .memory .now)
+counted : (r : tie.After-read-word) → let o = set-at r in count r ≡ byteCount (pages o) (start o .args .memory .now)
 unfolding byteCount
-counted i = let o = set-at i in i .before .before .read-word .ensures ∙ value-word 2 (pages o) (start o .args .memory .now)
+counted r = let o = set-at r in r .read-word .ensures ∙ value-word 2 (pages o) (start o .args .memory .now)
 
-judged : (i : tie.After-is-usable) → i .is-usable .result ≡ usable (count i) (length (pages (set-at i)))
-judged i = i .is-usable .ensures ∙ ap (usable (count i)) (i .before .page-count .ensures)
+even : (e : tie.Else1) → bit 0 (count (word-at e)) ≡ false
+even e = sym (e .before .is-set .ensures) ∙ e .if1 .left
 
-passed : (e : tie.Else1) → let i = e .before in usable (count i) (length (pages (set-at i))) ≡ true
-passed e = let i = e .before in sym (judged i) ∙ not-false (i .is-usable .result) (e .if1 .left)
+least : (e : tie.Else2) → 12 ≤ count (word-at (e .before))
+least e = e .if2 .left
 
-fitting : (e : tie.Else1) → let i = e .before in (12 ≤ count i) × (count i ≤ 256 * length (pages (set-at i)))
-fitting e = usable-fits _ _ (passed e)
+judged : (i : tie.After-is-past) → let r = read-at i in i .is-past .result ≡ ltb (256 * length (pages (set-at r))) (count r)
+judged i = i .is-past .ensures ∙ ap (λ (n : ℕ). ltb (256 * n) (count (read-at i))) (i .before .page-count .ensures)
+
+usable : (e : tie.Else3) → let r = read-at (e .before) in Usable (count r) (length (pages (set-at r)))
+usable e =
+    let i = e .before in
+    record { even = even (else-at i .before); least = least (else-at i); within = ltb-false _ _ (sym (judged i) ∙ e .if3 .left) }
 
 -- Whether the packet is released, and whether completion is full.
-retired : (f : tie.After-is-full) → f .before .before .is-released .result ≡ releasing (start (set-at (else-at f .before)))
+retired : (f : tie.After-is-full) → f .before .before .is-released .result ≡ releasing (begun f)
 unfolding autoRelease
 retired f =
-    let s = start (set-at (else-at f .before)) in
+    let s = begun f in
     let b = f .before .before in
     b .is-released .ensures ∙ ap (λ (g : Bool). g && bit 11 (word (words s) 14)) (b .before .before .is-good .ensures)
 
-filled : (f : tie.After-is-full) → let s = start (set-at (else-at f .before)) in f .is-full .result ≡ noPlace (sendOf (s .args .s)) (chip s)
+filled : (f : tie.After-is-full) → let s = begun f in f .is-full .result ≡ noPlace (sendOf (s .args .s)) (chip s)
 filled f =
-    let s = start (set-at (else-at f .before)) in
+    let s = begun f in
     f .is-full .ensures ∙ ap₂ (λ (b t : Bool). not b && t) (retired f) (ap₂ leb (sym (s .pre .0 .well .count)) (s .pre .0 .sound .queues .completion .many))
 
-open-completion : (p : tie.After-put-out) → let f = full-at p in f .before .before .is-released .result ≡ false → word (words (start (set-at (else-at f .before)))) 9 < 24
+open-completion : (p : tie.After-put-out) → let f = full-at p in f .before .before .is-released .result ≡ false → word (words (begun f)) 9 < 24
 open-completion p e =
     let f = full-at p in
-    let n = word (words (start (set-at (else-at f .before)))) 9 in
-    leb-false 24 n (sym (ap (λ (b : Bool). not b && leb 24 n) e) ∙ sym (f .is-full .ensures) ∙ p .before .before .before .before .if2 .left)
+    let n = word (words (begun f)) 9 in
+    leb-false 24 n (sym (ap (λ (b : Bool). not b && leb 24 n) e) ∙ sym (f .is-full .ensures) ∙ p .before .before .before .before .if4 .left)
 
 returns : tie.Need-returns
 returns c =
-    let i = c .before in
-    let o = set-at i in
+    let r = c .before .before in
+    let o = set-at r in
     let s = start o in
-    refuses 13 (s .pre .0 .sound)
-    (bad-count (sendOf (s .args .s)) (chip s) (s .args .out .now) _ _ (paged o) (counted i) (sym (judged i) ∙ not-true (i .is-usable .result) (c .if1 .taken))) refl
+    refuses-with 13 _ (s .pre .0 .sound)
+    (odd-count (sendOf (s .args .s)) (chip s) (s .args .out .now) _ _ (paged o) (counted r) (sym (c .before .is-set .ensures) ∙ c .if1 .taken)) refl
 
 returns-2 : tie.Need-returns-2
 returns-2 c =
+    let r = word-at (c .before) in
+    let o = set-at r in
+    let s = start o in
+    refuses-with 18 _ (s .pre .0 .sound)
+    (short-count (sendOf (s .args .s)) (chip s) (s .args .out .now) _ _ (paged o) (counted r) (even (c .before)) (c .if2 .taken)) refl
+
+returns-3 : tie.Need-returns-3
+returns-3 c =
+    let i = c .before in
+    let r = read-at i in
+    let o = set-at r in
+    let s = start o in
+    refuses-with 19 _ (s .pre .0 .sound)
+    (long-count (sendOf (s .args .s)) (chip s) (s .args .out .now) _ _ (paged o) (counted r) (even (else-at i .before)) (least (else-at i)) (sym (judged i) ∙ c .if3 .taken)) refl
+
+returns-4 : tie.Need-returns-4
+returns-4 c =
     let f = c .before in
-    let i = else-at f .before in
-    let o = set-at i in
+    let e = past-at f in
+    let r = read-at (e .before) in
+    let o = set-at r in
     let s = start o in
     refuses 14 (s .pre .0 .sound)
-    (completion-full (sendOf (s .args .s)) (chip s) (s .args .out .now) _ _ (paged o) (counted i) (passed (else-at f)) (sym (filled f) ∙ c .if2 .taken)) refl
+    (completion-full (sendOf (s .args .s)) (chip s) (s .args .out .now) _ _ (paged o) (counted r) (usable e) (sym (filled f) ∙ c .if4 .taken)) refl
 
 put-out-requires : tie.Need-put-out-requires
 put-out-requires c κs =
-    let e = else-at (c .before .before .before .before) in
-    let o = set-at (e .before) in
-    let h = fitting e in
-    (h .0, omega (arith, h .1, few o), start o .pre .2, roomy o _ (h .1))
+    let e = past-at (c .before .before .before .before) in
+    let o = set-at (read-at (e .before)) in
+    let u = usable e in
+    (u .least, omega (arith, u .within, few o), start o .pre .2, roomy o _ (u .within))
 
 complete-requires : tie.Need-complete-requires
 complete-requires c κs =
     let p = c .before .before .before .before .before .before in
-    let e = else-at (full-at p) in
-    let o = set-at (e .before) in
+    let e = past-at (full-at p) in
+    let o = set-at (read-at (e .before)) in
     let s = start o in
-    (s .pre .0, s .pre .3, roomy o 10 (omega (arith, fitting e)), s .pre .4, open-completion p)
+    let u = usable e in
+    (s .pre .0, s .pre .3, roomy o 10 (omega (arith, u .least, u .within)), s .pre .4, open-completion p)
 
-returns-3 : tie.Need-returns-3
-returns-3 c =
+returns-5 : tie.Need-returns-5
+returns-5 c =
     let d = c .before .before .before .before .before .before .before .before in
     let p = d .before .before .before .before .before .before .before in
     let f = full-at p in
-    let e = else-at f in
-    let o = set-at (e .before) in
+    let e = past-at f in
+    let r = read-at (e .before) in
+    let o = set-at r in
     let s = start o in
     let v = sendOf (s .args .s) in
-    sends-as (finishes v (chip s) (s .args .out .now) (pages o) _ (paged o) (counted (e .before)) (passed e) (sym (filled f) ∙ p .before .before .before .before .if2 .left))
-    (sends-all v (chip s) (s .args .out .now) (count (e .before)) (retired f) (f .before .before .before .before .is-good .ensures) (p .put-out .ensures) (d .complete .ensures))
+    sends-as (finishes v (chip s) (s .args .out .now) (pages o) _ (paged o) (counted r) (usable e) (sym (filled f) ∙ p .before .before .before .before .if4 .left))
+    (sends-all v (chip s) (s .args .out .now) (count r) (retired f) (f .before .before .before .before .is-good .ensures) (p .put-out .ensures) (d .complete .ensures))
 
 pub send-head-spec : {M : Type 1} → statement M
 send-head-spec =
@@ -150,21 +188,30 @@ send-head-spec =
     (λ c κs. search needs)
     (λ c κs. roomy (c .before) 4 (omega (arith, few (c .before))))
     (λ c κs. search needs)
-    (λ c κs. omega (arith, c .page-count .ensures, few (c .before .before .before)))
     (λ c. search needs)
     (λ c. search needs)
     (λ c. search needs)
     returns
     (λ c. search needs)
-    (λ c κs. search needs)
-    (λ c. search needs)
-    (λ c κs. search needs)
-    (λ c. search needs)
-    (λ c κs. search needs)
-    (λ c. search needs)
     (λ c. search needs)
     (λ c. search needs)
     returns-2
+    (λ c κs. search needs)
+    (λ c κs. omega (arith, c .page-count .ensures, few (set-at (word-at (c .before .before)))))
+    (λ c. search needs)
+    (λ c. search needs)
+    (λ c. search needs)
+    returns-3
+    (λ c. search needs)
+    (λ c κs. search needs)
+    (λ c. search needs)
+    (λ c κs. search needs)
+    (λ c. search needs)
+    (λ c κs. search needs)
+    (λ c. search needs)
+    (λ c. search needs)
+    (λ c. search needs)
+    returns-4
     (λ c. search needs)
     put-out-requires
     complete-requires
@@ -173,4 +220,4 @@ send-head-spec =
     (λ c. search needs)
     (λ c. search needs)
     (λ c. search needs)
-    returns-3)
+    returns-5)
