@@ -2,10 +2,9 @@
 
 use super::tables::{Part, Tables};
 use super::{answer_name, pages_name, pieces_name, Seen};
-use crate::bench::Answer;
+use crate::bench::{numbers, Answer};
 use crate::chip::{control, ephsr, tcr, Chip};
 use crate::memory::{PacketAddress, PacketNumber};
-use crate::refusal::Refusal;
 use crate::send::SendEnd;
 
 pub fn count(tables: &mut Tables, seen: &Seen) {
@@ -137,7 +136,7 @@ fn count_order(tables: &mut Tables, seen: &Seen) {
 /// Either side of what the byte count must be.
 fn count_byte_count(tables: &mut Tables, seen: &Seen) {
     let chip = &seen.before.chip;
-    let (Some(packet), Ok(_) | Err(Refusal::BadByteCount)) = (chip.tx.head(), seen.answer) else {
+    let (Some(packet), 0 | 13 | 18 | 19) = (chip.tx.head(), numbers(seen.answer).0) else {
         return;
     };
     let size = chip.packets.size(packet);

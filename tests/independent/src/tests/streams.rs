@@ -28,7 +28,7 @@ fn streams_meet_every_answer() {
             arrivals.insert(value);
         }
     }
-    assert_eq!(answers, (0..=14).chain([17]).collect());
+    assert_eq!(answers, (0..=14).chain(17..=19).collect());
     assert_eq!(arrivals, (0..=5).collect());
 }
 
