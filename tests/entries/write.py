@@ -1,5 +1,5 @@
 #!/usr/bin/env python3
-"""Writes crates/entry_runs/stdin and stdout: records in order and damaged ones, each with an access, a frame or a send, the answer that document 01 gives it, and
+"""Writes crates/entry_runs/stdin and stdout: records in order and damaged ones, each with an access, a frame or a send, the answer that the papers give it, and
 the record after it. The memory and the wire are those that the cases before left: a send puts out to the wire, and a frame comes from it.
 
 usage: tests/entries/write.py      (in the repository's top folder)
@@ -25,9 +25,9 @@ def done(name, value, record, asked, after=None):
     says(name, (0, value), record, asked, after)
 
 
-def refused(name, number, record, asked):
-    """Value 0, and nothing changes."""
-    says(name, (number, 0), record, asked)
+def refused(name, number, record, asked, value=0):
+    """Value 0, or the byte count that is at fault (W2), and nothing changes."""
+    says(name, (number, value), record, asked)
 
 
 def damaged(name, record, asked=request(2, MIR)):
@@ -204,6 +204,11 @@ def sending(tcr=TXENA):
     return three(tcr=tcr)
 
 
+def crowded():
+    """Packet 2 is to be sent, and completion is full."""
+    return Record(SIX, rx=[0, 1], tx=[2], completion=24 * [20], tcr=TXENA)
+
+
 def sent(completion=(2,), tcr=TXENA, pages=SIX):
     """Packets 0 and 1 in RX, after packet 2 has been sent."""
     return Record(pages, rx=[0, 1], completion=completion, tcr=tcr)
@@ -217,11 +222,13 @@ def sends_refused():
         refused("outside the limits", 11, three(), asked)
     refused("TXENA clear", 12, three(), send())
     refused("TX empty", 12, Record(tcr=TXENA), send())
-    for count in (0, 10, 67, 1538):
+    for count, number in ((0, 18), (10, 18), (11, 13), (67, 13), (1537, 13), (0xFFFE, 19), (1538, 19)):
         written(2, count)
-        refused(f"byte count {count}", 13, sending(), send())
+        refused(f"byte count {count}", number, sending(), send(), count)
+    refused("TXENA clear, before 19", 12, three(), send())
+    refused("completion full, behind 19", 19, crowded(), send(), 1538)
     written(2, 66)
-    refused("completion full", 14, Record(SIX, rx=[0, 1], tx=[2], completion=24 * [20], tcr=TXENA), send())
+    refused("completion full", 14, crowded(), send())
     damaged("free count one less", sending().word(4, 24 + 256 * 5), send(6, 0, 0, 1))
     damaged("TX bit of packet 2 clear", sending().word(30, 0), send())
     damaged("page 6 in two packets", sending().set(0, 0b1111111), send())

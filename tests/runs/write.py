@@ -1,6 +1,6 @@
 #!/usr/bin/env python3
-"""Writes crates/bench_runs/stdin and stdout: the cases that document 01 marks "Run", and how W1 of document 02 lets the last of them go on, each record with the answer that the
-papers give it.
+"""Writes crates/bench_runs/stdin and stdout: the cases that document 01 marks "Run", how W1 of document 02 lets the last of them go on, and the byte counts that W2 tells apart,
+each record with the answer that the papers give it.
 
 usage: tests/runs/write.py      (in the repository's top folder)
 """
@@ -52,6 +52,13 @@ def sees(result, status, free):
     write_byte(0x0E, 0)
     says(0, 0x18 + 256 * free, 2, 0x08)
     write_byte(0x0E, 2)
+
+
+def sends(count, answer, value):
+    """The packet in the packet number register, which heads TX, gets a byte count and is sent."""
+    write_word(0x06, 0x4002)
+    write_word(0x08, count)
+    says(answer, value, 7)
 
 
 # "a word at 2,047 of an eight-page packet, AUTO INCR set, gives 10"; the byte there is the last one
@@ -213,6 +220,51 @@ write_byte(0x0E, 2)
 sees(0x80, RX + TX_EMPTY, 23)
 write_byte(0x00, 0x80)
 sees(0x80, TX_EMPTY, 24)
+
+# W2: "13 odd, 18 under 12, 19 past the pages; in that order", with "the offending count as the answer's value"
+enter(0, 0x00, 0x0001)  # TXENA
+allocate(8)
+allocate(1)
+says(0, 1, 1, 0x03)  # packet 1: page 8, in which nothing was ever written
+write_byte(0x02, 1)
+write_byte(0x00, 0xC0)
+says(18, 0, 7)
+sends(10, 18, 10)
+sends(11, 13, 11)
+sends(13, 13, 13)
+sends(258, 19, 258)
+sends(257, 13, 257)
+sends(0x8001, 13, 0x8001)
+sends(0xFFFE, 19, 0xFFFE)
+write_byte(0x02, 0)
+says(19, 0xFFFE, 7)  # the head's count, whatever packet the packet number register names
+write_byte(0x02, 1)
+# they have changed nothing: completion and RX are empty, no status is in the packet or in EPHSR, and the send is done with the count that stands there now
+says(0, 0x8080, 2, 0x04)
+write_word(0x06, 0x6000)  # AUTO INCR, READ
+says(0, 0x0000, 2, 0x08)
+says(0, 0xFFFE, 2, 0x08)
+write_byte(0x0E, 0)
+says(0, 0x0000, 2, 0x02)
+write_byte(0x0E, 2)
+sends(12, 0, 6)
+
+# "where 13 stood": behind 11 and 12, before 14
+for _ in range(23):
+    write_byte(0x00, 0xC0)
+    says(0, 6, 7)
+write_byte(0x00, 0xC0)
+sends(12, 14, 0)
+sends(13, 13, 13)
+sends(10, 18, 10)
+sends(258, 19, 258)
+says(11, 0, 7, 6)  # no such outcome
+enter(0, 0x00, 0x0000)
+says(12, 0, 7)  # TXENA clear
+enter(0, 0x00, 0x0001)
+sends(256, 14, 0)
+write_byte(0x0C, 0x02)  # one acknowledged
+says(0, 250, 7)
 
 open("crates/bench_runs/stdin", "wb").write(b"".join(records))
 open("crates/bench_runs/stdout", "w").write("".join(lines))

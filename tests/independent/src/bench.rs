@@ -19,7 +19,7 @@ pub type Answer = Result<u16, Refusal>;
 pub fn numbers(answer: Answer) -> (u8, u16) {
     match answer {
         Ok(value) => (0, value),
-        Err(refusal) => (refusal.number(), 0),
+        Err(refusal) => (refusal.number(), refusal.value()),
     }
 }
 

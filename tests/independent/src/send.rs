@@ -10,7 +10,7 @@ pub const OUTPUT_SIZE: usize = 2_048;
 /// "With TCR bit 7 shorter data is padded by zeros to 60."
 const PADDED: usize = 60;
 /// "must be even, at least 12, within the pages".
-const LEAST_COUNT: usize = 12;
+const LEAST_COUNT: u16 = 12;
 const STATUS_AT: PacketAddress = PacketAddress(0);
 const COUNT_AT: PacketAddress = PacketAddress(2);
 const DATA_AT: PacketAddress = PacketAddress(4);
@@ -190,15 +190,34 @@ impl Chip {
 
     /// "Data: from 4, c − 5 bytes if bit 5 of the byte at c − 1 is set, else c − 6."
     pub fn data_length(&self, packet: PacketNumber) -> Result<usize, Refusal> {
-        let pages = self.packets.pages(packet);
-        let count = self.memory.word(pages, COUNT_AT);
-        let usable = LEAST_COUNT..=self.packets.size(packet);
-        if count % 2 == 1 || !usable.contains(&usize::from(count)) {
-            return Err(Refusal::BadByteCount);
+        if let Some(fault) = self.count_faults(packet).next() {
+            return Err(fault);
         }
+        let count = self.byte_count(packet);
+        let pages = self.packets.pages(packet);
         let control = self.memory.byte(pages, PacketAddress(count - 1));
         let around = if control & CONTROL_ODD != 0 { 5 } else { 6 };
         Ok(usize::from(count) - around)
+    }
+
+    /// "Count c at addresses 2 and 3, low byte first", usable or not.
+    pub fn byte_count(&self, packet: PacketNumber) -> u16 {
+        self.memory.word(self.packets.pages(packet), COUNT_AT)
+    }
+
+    /// All that is wrong with it: "13 odd, 18 under 12, 19 past the pages; in
+    /// that order".
+    pub fn count_faults(&self, packet: PacketNumber) -> impl Iterator<Item = Refusal> {
+        let count = self.byte_count(packet);
+        let past = usize::from(count) > self.packets.size(packet);
+        let faults = [
+            (Refusal::OddCount(count), count % 2 == 1),
+            (Refusal::ShortCount(count), count < LEAST_COUNT),
+            (Refusal::LongCount(count), past),
+        ];
+        faults
+            .into_iter()
+            .filter_map(|(fault, holds)| holds.then_some(fault))
     }
 
     /// Copies the data out, padded if TCR says so, and gives the length.

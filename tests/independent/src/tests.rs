@@ -1,5 +1,6 @@
 //! The cases that documents 01 and 02 themselves name.
 
+mod counts;
 mod streams;
 mod waiting;
 mod watch;

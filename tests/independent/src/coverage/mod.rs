@@ -3,6 +3,7 @@
 
 mod accesses;
 mod commands;
+mod counts;
 mod data;
 mod frames;
 mod sends;
@@ -36,7 +37,8 @@ impl Seen<'_> {
 #[derive(Default)]
 pub struct Coverage {
     bench: Bench,
-    history: waiting::History,
+    requests: waiting::History,
+    counts: counts::History,
     tables: Tables,
 }
 
@@ -44,7 +46,8 @@ impl Coverage {
     /// All records of a stream, from power-up on.
     pub fn stream(&mut self, records: &[Record]) {
         self.bench = Bench::default();
-        self.history = waiting::History::default();
+        self.requests = waiting::History::default();
+        self.counts = counts::History::default();
         for record in records {
             self.step(record);
         }
@@ -68,7 +71,8 @@ impl Coverage {
             7 => sends::count(tables, &seen),
             _ => {}
         }
-        waiting::count(tables, &mut self.history, &seen);
+        counts::count(tables, &mut self.counts, &seen);
+        waiting::count(tables, &mut self.requests, &seen);
         states::count(tables, &self.bench.chip);
     }
 

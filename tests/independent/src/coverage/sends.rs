@@ -1,11 +1,11 @@
 //! Sends: their answers, how they ended, what they put out.
 
+use super::commands::those;
 use super::tables::{Part, Tables};
 use super::{answer_name, pages_name, pieces_name, Seen};
 use crate::bench::Answer;
 use crate::chip::{control, ephsr, tcr, Chip};
-use crate::memory::{PacketAddress, PacketNumber};
-use crate::refusal::Refusal;
+use crate::memory::PacketNumber;
 use crate::send::SendEnd;
 
 pub fn count(tables: &mut Tables, seen: &Seen) {
@@ -16,7 +16,6 @@ pub fn count(tables: &mut Tables, seen: &Seen) {
     };
     tables.count(Part::Sends, &row, answer_name(seen.answer));
     count_order(tables, seen);
-    count_byte_count(tables, seen);
     let Some(packet) = seen.before.chip.tx.head().filter(|_| seen.answer.is_ok()) else {
         return;
     };
@@ -105,7 +104,8 @@ fn count_fate(tables: &mut Tables, seen: &Seen) {
     tables.count(Part::Verdicts, last, latch);
 }
 
-/// "Sends 16, 15, 11, 12, 13, 14": which of the later ones hold too.
+/// "Sends 16, 15, 11, 12, 13, 14", and "18 under 12, 19 past the pages" behind
+/// 13: which of the later ones hold too.
 fn count_order(tables: &mut Tables, seen: &Seen) {
     let Err(given) = seen.answer else {
         return;
@@ -113,48 +113,21 @@ fn count_order(tables: &mut Tables, seen: &Seen) {
     let [_, outcome, collisions, deferral, ..] = *seen.record;
     let chip = &seen.before.chip;
     let head = chip.tx.head();
-    let holding = [
-        (
-            11,
-            "11",
-            SendEnd::new(outcome, collisions, deferral).is_err(),
-        ),
-        (12, "12, TXENA clear", chip.registers.tcr & tcr::TXENA == 0),
-        (12, "12, TX empty", head.is_none()),
-        (
-            13,
-            "13",
-            head.is_some_and(|packet| chip.data_length(packet).is_err()),
-        ),
-        (14, "14", chip.completion.is_full()),
-    ];
+    let outside = SendEnd::new(outcome, collisions, deferral).is_err();
+    let kept = chip.registers.control & control::AUTO_RELEASE == 0;
+    let holding = those(&[
+        (outside, "11"),
+        (chip.registers.tcr & tcr::TXENA == 0, "12, TXENA clear"),
+        (head.is_none(), "12, TX empty"),
+        (kept && chip.completion.is_full(), "14"),
+    ]);
     let row = format!("send {}", given.number());
-    for (_, name, _) in holding.into_iter().filter(|(_, _, holds)| *holds) {
+    for name in holding {
         tables.count(Part::Order, &row, name);
     }
-}
-
-/// Either side of what the byte count must be.
-fn count_byte_count(tables: &mut Tables, seen: &Seen) {
-    let chip = &seen.before.chip;
-    let (Some(packet), Ok(_) | Err(Refusal::BadByteCount)) = (chip.tx.head(), seen.answer) else {
-        return;
-    };
-    let size = chip.packets.size(packet);
-    let count = usize::from(
-        chip.memory
-            .word(chip.packets.pages(packet), PacketAddress(2)),
-    );
-    let column = match count {
-        10 => "10",
-        12 => "12",
-        _ if count % 2 == 1 => "odd",
-        _ if count == size => "all of the pages",
-        _ if count == size + 2 => "two above the pages",
-        _ if count > size => "above the pages",
-        _ => return,
-    };
-    tables.count(Part::PutOut, "byte count", column);
+    for fault in head.into_iter().flat_map(|head| chip.count_faults(head)) {
+        tables.count(Part::Order, &row, fault.number().to_string());
+    }
 }
 
 fn count_put_out(tables: &mut Tables, seen: &Seen, packet: PacketNumber) {

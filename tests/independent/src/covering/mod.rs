@@ -72,6 +72,7 @@ const SCENARIOS: &[(&str, Scenario)] = &[
     ("waiting-sizes", waiting::sizes),
     ("waiting-meetings", waiting::meetings),
     ("waiting-dropped", waiting::dropped),
+    ("send-counts", sends::counts),
 ];
 
 /// Every stream by its name.

@@ -197,19 +197,31 @@ fn refuse_all(script: &mut Script) {
     }
 }
 
-/// "Sends 16, 15, 11, 12, 13, 14": 11, 12 and 13 by each outcome.
+/// Sends within their limits.
+fn refuse_within(script: &mut Script) {
+    for [outcome, collisions, deferral] in WITHIN {
+        script.send(outcome, collisions, deferral);
+    }
+}
+
+/// "Sends 16, 15, 11, 12, 13, 14", and 18 and 19 behind 13: all but 14 by each
+/// outcome.
 pub fn refusals(script: &mut Script) {
     refuse_all(script);
     set_up(script);
     refuse_all(script);
     let packet = script.filled(18);
     script.enqueue(packet);
-    for count in [0, 10, 13, 258, 300, 0xfffe, 0x8010] {
+    for count in [10, 11, 13, 257, 258, 0x8001, 0xfffe] {
         script.load(2, &[count]);
         refuse_all(script);
     }
     script.put(TCR, 0);
     refuse_all(script);
+    for count in [13, 10] {
+        script.load(2, &[count]);
+        script.send(0, 0, 0);
+    }
     script.load(2, &[12]);
     refuse_all(script);
     script.put(RCR, 0);
@@ -217,7 +229,8 @@ pub fn refusals(script: &mut Script) {
     script.send(0, 0, 0);
 }
 
-/// "25 sends of packet 0, each enqueued again and none acknowledged, end in 14".
+/// "25 sends of packet 0, each enqueued again and none acknowledged, end in 14";
+/// with 13, 18 and 19 before it.
 pub fn completion_full(script: &mut Script) {
     set_up(script);
     let packet = script.filled(18);
@@ -229,8 +242,10 @@ pub fn completion_full(script: &mut Script) {
     refuse_all(script);
     script.command(ENQUEUE);
     refuse_all(script);
-    script.load(2, &[13]);
-    refuse_all(script);
+    for count in [13, 10, 258] {
+        script.load(2, &[count]);
+        refuse_within(script);
+    }
     script.put(TCR, 0);
     refuse_all(script);
     script.load(2, &[24]);
@@ -244,4 +259,37 @@ pub fn completion_full(script: &mut Script) {
     script.frame(MacAddress::BROADCAST, 18, 0);
     script.acknowledge(interrupt::COMPLETION);
     script.get(HEADS);
+}
+
+/// Byte counts rewritten in TX, those of a packet of one page and one of two by
+/// turns: a refusal's value is the count that stands there now.
+pub fn counts(script: &mut Script) {
+    set_up(script);
+    let one = script.filled(18);
+    let two = script.allocate(2);
+    script.enqueue(one);
+    script.enqueue(two);
+    script.send(0, 0, 0);
+    script.send(0, 0, 0); // a count never written
+    let unusable = [2, 9, 511, 513, 514, 0x07ff, 0x0800, 0x7ffe, 0x7fff, 0xffff];
+    refuse_each(script, &unusable);
+    script.load(2, &[512]);
+    refuse_each(script, &[11, 10, 516]);
+    script.load(2, &[512]);
+    script.send(0, 0, 0);
+    for (packet, count, usable) in [(one, 257, 256), (two, 600, 14)] {
+        script.enqueue(packet);
+        refuse_each(script, &[count]);
+        script.load(2, &[usable]);
+        script.send(0, 0, 0);
+    }
+    script.get(HEADS);
+}
+
+/// Each of the counts in the chosen packet, refused by one outcome or another.
+fn refuse_each(script: &mut Script, counts: &[u16]) {
+    for (&count, [outcome, collisions, deferral]) in counts.iter().zip(WITHIN.into_iter().cycle()) {
+        script.load(2, &[count]);
+        script.send(outcome, collisions, deferral);
+    }
 }

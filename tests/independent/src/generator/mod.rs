@@ -1,6 +1,7 @@
 //! Deep streams of records, steered by a bench of the generator's own so that
 //! packets fill, queues back up and counters stop before anything is reset.
 
+mod counts;
 mod driver;
 mod probe;
 mod receive;
@@ -38,6 +39,7 @@ type Scene = (usize, fn(&mut Generator));
 const SCENES: &[Scene] = &[
     (40, Generator::transmit),
     (14, Generator::send_again),
+    (14, Generator::rewrite_counts),
     (30, Generator::short_frame),
     (4, Generator::middling_frame),
     (3, Generator::long_frame),

@@ -96,23 +96,8 @@ impl Generator {
         }
     }
 
-    /// Mostly usable, else on either side of each limit.
-    fn byte_count(&mut self, size: usize) -> usize {
-        match self.random.between(0, 19) {
-            0..=8 => 2 * self.random.between(6, 40),
-            9..=11 => 2 * self.random.between(6, size / 2),
-            12..=13 => size - self.random.pick(&[0, 2, 4]),
-            14 => self.random.pick(&[12, 14, 64, 66, 68, 256, 258]),
-            15 => self.random.pick(&[0, 4, 8, 10, 10, 10, 11, 13]),
-            16 => self.random.between(6, size / 2) * 2 + 1,
-            17 => size + self.random.pick(&[1, 2, 256, 0x8000]),
-            18 => self.random.pick(&[0xffff, 0xfffe, 2_048, 2_050]),
-            _ => usize::from(self.random.word()),
-        }
-    }
-
     /// The byte at count − 1, by a byte or within its word.
-    fn load_control(&mut self, count: usize) {
+    pub fn load_control(&mut self, count: usize) {
         let byte = self
             .random
             .pick(&[0x00, 0x20, 0x20, 0x40, 0x60, 0x10, 0xdf, 0xff]);
@@ -131,7 +116,7 @@ impl Generator {
         self.chip().registers.pointer.0 & Pointer::AUTO_INCREMENT
     }
 
-    /// A send of any outcome, within its limits most of the time.
+    /// A send that mostly finds TXENA set and a usable count.
     pub fn send(&mut self) {
         if self.chip().registers.tcr & tcr::TXENA == 0 && !self.random.one_in(4) {
             self.enable_tx();
@@ -139,6 +124,11 @@ impl Generator {
         if !self.random.one_in(3) {
             self.repair_head();
         }
+        self.send_as_is();
+    }
+
+    /// A send of any outcome, within its limits most of the time.
+    pub fn send_as_is(&mut self) {
         let outcome = match self.random.between(0, 99) {
             0..=39 => 0,
             40..=51 => 1,
@@ -159,23 +149,6 @@ impl Generator {
             false => self.random.pick(&[0, 0, 1, 2]),
         };
         self.say(&[7, outcome, collisions, deferral])
-    }
-
-    /// Makes the TX head's byte count usable, lest it block the queue: a packet
-    /// in TX may still be written.
-    pub fn repair_head(&mut self) {
-        let Some(packet) = self.chip().tx.head() else {
-            return;
-        };
-        if self.chip().data_length(packet).is_ok() {
-            return;
-        }
-        let size = self.chip().packets.size(packet);
-        let even = 2 * self.random.between(6, size / 2);
-        let count = self.random.pick(&[12, 14, even, size]);
-        self.select_packet(packet.get());
-        self.load_words(2, &[count as u16]);
-        self.load_control(count);
     }
 
     /// The status word that the last send left in its packet.
@@ -257,11 +230,12 @@ impl Generator {
         // More than enough: each of these meets a full FIFO, some of them with
         // a count that is refused first.
         self.command(ENQUEUE);
-        if self.random.one_in(2) {
-            self.load_words(2, &[13]);
-        }
-        for _ in 0..self.random.between(2, 5) {
-            self.send();
+        for _ in 0..self.random.between(3, 7) {
+            if self.random.one_in(3) {
+                self.send_spoiled();
+            } else {
+                self.send();
+            }
         }
         if self.random.one_in(2) {
             // A good send now releases its packet and is not refused.
@@ -287,6 +261,7 @@ impl Generator {
             self.enable_tx();
             self.select_packet(packet.get());
             self.command(ENQUEUE);
+            self.repair_head();
             self.say(&[7, 0, collisions, deferral]);
             self.write_byte(INTERRUPT.1, 0x02);
         }

@@ -1,6 +1,6 @@
 //! What the generated streams have to be, and to meet.
 
-use std::collections::BTreeSet;
+use std::collections::{BTreeMap, BTreeSet};
 
 use super::record;
 use crate::bench::{numbers, Bench};
@@ -28,8 +28,26 @@ fn streams_meet_every_answer() {
             arrivals.insert(value);
         }
     }
-    assert_eq!(answers, (0..=14).chain([17]).collect());
+    assert_eq!(answers, (0..=14).chain(17..=19).collect());
     assert_eq!(arrivals, (0..=5).collect());
+}
+
+/// "We want them told apart": every count under 12, and many of the others.
+#[test]
+fn streams_meet_many_unusable_counts() {
+    let mut bench = Bench::default();
+    let mut values: BTreeMap<u8, BTreeSet<u16>> = BTreeMap::new();
+    for record in generator::records(1, 50_000) {
+        let (answer, value) = numbers(bench.step(&record));
+        values.entry(answer).or_default().insert(value);
+    }
+    let [odd, short, long] = [13, 18, 19].map(|number| &values[&number]);
+    assert!(odd.range(..12).eq(&[1, 3, 5, 7, 9, 11]));
+    assert!(short.iter().eq(&[0, 2, 4, 6, 8, 10]));
+    for unusable in [odd, long] {
+        assert!(unusable.range(12..=2_048).count() > 10);
+        assert!(unusable.range(2_049..).count() > 5);
+    }
 }
 
 /// Each bit of the status has the line up and down, alone in the mask.

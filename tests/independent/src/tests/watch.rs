@@ -121,16 +121,33 @@ fn a_failed_send_shows_its_bytes() {
     assert_eq!(odd, "14 0 000b 1 0123456789abcdef0ff05a\n");
 }
 
-/// Only "a send that is done" has bytes: here 11, 12 and 13.
+/// Only "a send that is done" has bytes: here 11 and 12.
 #[test]
 fn a_refused_send_shows_no_bytes() {
     let outside = watched_after(ready(0x01, 0x00), &[&[7, 6], &[7]]);
     assert_eq!(outside, "14 11 0000 0\n15 0 000a 1 0123456789abcdef0ff0\n");
     let disabled = watched_after(ready(0x80, 0x00), &[&[7]]);
     assert_eq!(disabled, "14 12 0000 0\n");
-    let odd_count: [&[u8]; 3] = [&[4, 0x6, 0x02, 0x40], &[4, 0x8, 13, 0], &[7]];
-    let unusable = watched_after(ready(0x01, 0x00), &odd_count);
-    assert_eq!(unusable, "14 0 0000 0\n15 0 0000 0\n16 13 0000 0\n");
+}
+
+/// The value of 13, 18 and 19 is a count, and no length put out.
+#[test]
+fn an_offending_count_shows_no_bytes() {
+    let records: [&[u8]; 9] = [
+        &[4, 0x6, 0x02, 0x40],
+        &[4, 0x8, 13, 0],
+        &[7],
+        &[4, 0x6, 0x02, 0x40],
+        &[4, 0x8, 10, 0],
+        &[7, 1, 16],
+        &[4, 0x6, 0x02, 0x40],
+        &[4, 0x8, 0x02, 0x01],
+        &[7, 5, 1, 2],
+    ];
+    let lines = watched_after(ready(0x01, 0x00), &records);
+    let expected = "14 0 0000 0\n15 0 0000 0\n16 13 000d 0\n17 0 0000 0\n18 0 0000 0\n\
+                    19 18 000a 0\n20 0 0000 0\n21 0 0000 0\n22 19 0102 0\n";
+    assert_eq!(lines, expected);
 }
 
 /// A packet that is released joins no completion FIFO, so the line stays down.
