@@ -47,7 +47,10 @@ static unsigned done(unsigned kind, unsigned b1, unsigned b2, unsigned b3)
 	struct reply r = record(kind, b1, b2, b3);
 
 	if (r.answer != 0) {
-		printf("refusal %u of record %02x %02x %02x %02x\n", r.answer, kind, b1, b2, b3);
+		printf("refusal %u", r.answer);
+		if (r.answer == 13 || r.answer == 18 || r.answer == 19) /* the value is the byte count in the packet */
+			printf(", byte count %u,", r.value);
+		printf(" of record %02x %02x %02x %02x\n", kind, b1, b2, b3);
 		exit(1);
 	}
 	return r.value;

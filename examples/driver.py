@@ -1,10 +1,13 @@
 #!/usr/bin/env python3
-"""Drives the bench over a pipe: reset, allocate, load, send, receive, remove and release, and an allocation that waits.
+"""Drives the bench over a pipe: reset, allocate, load, send, receive, remove and release; then a byte count that is refused and
+mended, and an allocation that waits.
 
 usage: driver.py BENCH        (what tools/build bench prints)
 """
 import subprocess
 import sys
+
+OF_COUNT = (13, 18, 19)  # refusals of a send whose value is the byte count in its packet; others have value 0
 
 
 class Bench:
@@ -30,7 +33,8 @@ class Bench:
         """A record that must be answered with 0; gives its value."""
         answer, value = self.record(*values)
         if answer != 0:
-            raise SystemExit(f"refusal {answer} of record {bytes(values).hex(' ')}")
+            count = f", byte count {value}," if answer in OF_COUNT else ""
+            raise SystemExit(f"refusal {answer}{count} of record {bytes(values).hex(' ')}")
         return value
 
     def select(self, bank):
@@ -78,10 +82,10 @@ HEADER = bytes([0xFF] * 6) + STATION + bytes([0x08, 0x00])  # to everybody
 
 
 def load(chip, number, data):
-    """Loads a frame of even length, without FCS, into a packet, and puts that at the end of TX."""
+    """Loads a frame, without FCS, into a packet, and puts that at the end of TX. Count and control byte are those of an even length."""
     chip.write(*PACKET, number)
     chip.write_word(*POINTER, 0x4000)  # AUTO INCR, write
-    packet = bytes([0, 0]) + (len(data) + 6).to_bytes(2, "little") + data + bytes([0, 0])
+    packet = bytes([0, 0]) + (len(data) + 6).to_bytes(2, "little") + data + bytes(2 - len(data) % 2)
     for at in range(0, len(packet), 2):
         chip.write_word(*DATA, packet[at] + 256 * packet[at + 1])
     chip.write(*COMMAND, 0xC0)
@@ -95,6 +99,29 @@ def finish(chip):
     print(f"sent             {length} bytes put out, completion head {done}, status {chip.read(*STATUS):02x}h")
     chip.write(*COMMAND, 0xA0)
     chip.write(*STATUS, 0x02)  # acknowledge: the completion head goes
+
+
+def slip(chip):
+    """What a slip looks like: RX is empty, and its head is removed once more."""
+    chip.select(2)
+    answer, value = chip.record(3, 0x00, 0x80)
+    print(f"remove again     refusal {answer}, value {value:04x}h")
+
+
+def send_mended(chip, data):
+    """Another: a frame of odd length, with length + 6 as its count. The send is refused, and the value is that count. Nothing has
+    changed, so the packet is mended at the head of TX: length + 5, and a control byte that says that the length is odd."""
+    chip.write(*COMMAND, 0x20)
+    load(chip, chip.read(*RESULT), data)
+    answer, value = chip.record(7)  # good
+    print(f"odd count        refusal {answer}, value {value:04x}h")
+    count = len(data) + 5
+    chip.write_word(*POINTER, 0x4002)  # the count
+    chip.write_word(*DATA, count)
+    chip.write_word(*POINTER, 0x4000 + count - 1)  # the control byte
+    chip.write(*DATA, 0x20)
+    print(f"mended           count {count}, control byte 20h")
+    finish(chip)
 
 
 def send_when_granted(chip, data):
@@ -138,9 +165,8 @@ def main(path):
     chip.write(*COMMAND, 0x80)
     print(f"removed          free pages {chip.read_word(*MIR) >> 8}, RX head {chip.read_word(*HEADS) >> 8:02x}h")
 
-    # what a slip looks like
-    answer, value = chip.record(3, 0x00, 0x80)
-    print(f"remove again     refusal {answer}, value {value:04x}h")
+    slip(chip)
+    send_mended(chip, HEADER + b"abc")
 
     # six frames of 1,000 bytes take all pages, and one of 1,514 is to be sent: it needs those of two of them
     for _ in range(6):

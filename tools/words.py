@@ -1,4 +1,4 @@
-"""The words that tools/rec has for registers, bits, commands, refusals, arrivals and sends: tables in the words and the order of document 01; the bits have the data sheet's names."""
+"""The words that tools/rec has for registers, bits, commands, refusals, arrivals and sends: tables in the words and the order of documents 01 and 02; the bits have the data sheet's names."""
 from collections import namedtuple
 
 REFUSALS = {
@@ -14,12 +14,16 @@ REFUSALS = {
     10: "data access past the packet's pages",
     11: "event outside its limits",
     12: "TXENA clear or TX FIFO empty",
-    13: "byte count in the packet unusable",
+    13: "byte count odd",
     14: "completion FIFO full",
     15: "output buffer under 2,048 bytes",
     16: "memory not 6,144 bytes or state not well formed",
     17: "record cut short or of unknown kind",
+    18: "byte count under 12",
+    19: "byte count past the packet's pages",
 }
+# those whose value is the byte count that stands in the packet; any other refusal has value 0
+OF_COUNT = (13, 18, 19)
 
 # which bytes of a word an access reaches
 LOW, HIGH, WORD = 0x00FF, 0xFF00, 0xFFFF
