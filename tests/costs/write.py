@@ -49,7 +49,7 @@ says(0x0000, 2, 0x08)  # the status
 says(1524, 2, 0x08)
 says(0x0100, 2, 0x08)  # the frame's first two bytes
 
-# a refusal has value 0, and what is no record at all is passed over
+# a refusal of an access has value 0, and what is no record at all is passed over
 says(0, 2, 0x09)
 says(0, 0)
 says(0, 9)
