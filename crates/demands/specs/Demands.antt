@@ -4,9 +4,8 @@
 use mathlib.Core.Path.{_≡_}
 use mathlib.Core.Bool.{Bool, true, false}
 use mathlib.Core.Logic.{_⊎_}
-use mathlib.Core.List.{List, [], _∷_, _++_, map}
+use mathlib.Core.List.{List, _∷_, _++_, map}
 use Prim.Native.Nat.{ℕ, _<_}
-use lib.ListN.{length}
 use Rattle.rules.specs.Lists.{member}
 use Rattle.rules.specs.Chip.{Chip, powerUp}
 use Rattle.rules.specs.Interrupts.{lineUp}
@@ -14,8 +13,8 @@ use Rattle.rules.specs.Registers.{Access}
 use Rattle.rules.specs.Receive.{Frame}
 use Rattle.rules.specs.Send.{Send}
 use Rattle.rules.specs.Step.{Input, driver, frame, sent, lent, step, run, history}
-use Rattle.laws.specs.Sendable.{Reaches, ByCount, told-by-count, told-before}
-use Rattle.laws.specs.Refusals.{refusals, Unchanged, Valued, numbers-given, refusal-leaves, refusal-value, sixteen-where, sixteen-there, never-seventeen, short-gets-15}
+use Rattle.laws.specs.Sendable.{Reaches, ByCount, Before, told-by-count, told-before}
+use Rattle.laws.specs.Refusals.{refusals, Unchanged, Valued, numbers-given, refusal-leaves, refusal-value, sixteen-where, sixteen-there, never-seventeen}
 use Rattle.laws.specs.Accounted.{IsFree, InOne}
 use Rattle.laws.specs.Ledger.{Ledger, Resets, blank, ledgerFrom}
 use Rattle.laws.specs.Reading.{Balances}
@@ -25,7 +24,7 @@ use Rattle.laws.specs.Theorems.{Whole, power-up-whole, step-whole, pages-accoun
 use Rattle.state.specs.declared.Returned.{Returned}
 use Rattle.chip.specs.Inputs.{Started, Lines}
 use Rattle.demands.specs.Boards.{Board, Left, replyTo, chipOf, ReadyBy, Good, Serves, Runs, boardAfter, AsRules, serves-right, serves-once}
-use Rattle.demands.specs.OfCode.{serves-numbers, serves-leaves, serves-values, serves-sixteen, serves-no17, serves-short, serves-counts, serves-pages, started, BalancesOn, runs-balanced, runs-balanced-since, AlikeOn, any-two-on}
+use Rattle.demands.specs.OfCode.{serves-numbers, serves-leaves, serves-values, serves-sixteen, serves-no17, serves-earlier, serves-counts, serves-pages, started, BalancesOn, runs-balanced, runs-balanced-since, AlikeOn, any-two-on}
 
 -- Demand 1. "Every access, arriving frame and send gets an answer, whatever numbers and bytes come in. What the sheet forbids or the model lacks is refused by a number of document 01; a refusal changes no
 -- register, no packet byte and nothing in the output buffer." (`step` is a function on every input and chip, and the public entries ask nothing of what they are given: each call has a result.)
@@ -39,18 +38,17 @@ pub record Demand1 : Type 0 where
   -- 16 exactly where the memory has not 6,144 bytes or the chip is not well formed; 17 never
   pub sixteen : (i : Input) (c : Chip) → (step i c .reply .number ≡ 16 → Whole c → ⊥) × ((Whole c → ⊥) → step i c .reply .number ≡ 16)
   pub no17 : (i : Input) (c : Chip) → step i c .reply .number ≡ 17 → ⊥
-  -- a send whose buffer has not 2,048 bytes gets 15
-  pub short : (s : Send) (out : List ℕ) (c : Chip) → Whole c → length out < 2048 → step (sent s out) c .reply .number ≡ 15
-  -- a send that is refused with neither 15, 11 nor 12 goes by the count in the packet: 13 odd, 18 under 12, 19 past the pages, in that order and before 14, each with that count
+  -- a send gets 15 where its buffer has not 2,048 bytes, else 11 where its event is outside the limits, else 12 where TXENA is clear or TX is empty
+  pub earlier : (s : Send) (out : List ℕ) (c : Chip) → Whole c → Before s c out (step (sent s out) c .reply)
+  -- any other goes by the count in the packet: 13 odd, 18 under 12, 19 past the pages, in that order and before 14, each with that count
   pub counts : (s : Send) (out : List ℕ) (c : Chip) → Whole c → Reaches s c out → ByCount s c (step (sent s out) c .reply)
-  pub unreached : (s : Send) (out : List ℕ) (c : Chip) → Whole c → (Reaches s c out → ⊥) → member (step (sent s out) c .reply .number) (15 ∷ 11 ∷ 12 ∷ []) ≡ true
   -- Of the code, the same: a refusal leaves registers, page sets, queues and memory, all of them, and the output buffer; 16 is given exactly where the board is not in order.
   pub codeNumbers : (i : Input) (b : Board) (x : Left) → Serves i b x → member (replyTo x .number) (0 ∷ 16 ∷ refusals i) ≡ true
   pub codeLeaves : (i : Input) (b : Board) (x : Left) → Serves i b x → (replyTo x .number ≡ 0 → ⊥) → (x .board ≡ b) × (x .output ≡ lent i)
   pub codeValues : (i : Input) (b : Board) (x : Left) → Serves i b x → (replyTo x .number ≡ 0 → ⊥) → Valued (chipOf b) (replyTo x)
   pub codeSixteen : (i : Input) (b : Board) (x : Left) → Serves i b x → (replyTo x .number ≡ 16 → Good b → ⊥) × ((Good b → ⊥) → replyTo x .number ≡ 16)
   pub codeNo17 : (i : Input) (b : Board) (x : Left) → Serves i b x → replyTo x .number ≡ 17 → ⊥
-  pub codeShort : (s : Send) (out : List ℕ) (b : Board) (x : Left) → Good b → Serves (sent s out) b x → length out < 2048 → replyTo x .number ≡ 15
+  pub codeEarlier : (s : Send) (out : List ℕ) (b : Board) (x : Left) → Good b → Serves (sent s out) b x → Before s (chipOf b) out (replyTo x)
   pub codeCounts : (s : Send) (out : List ℕ) (b : Board) (x : Left) → Good b → Serves (sent s out) b x → Reaches s (chipOf b) out → ByCount s (chipOf b) (replyTo x)
 
 -- Demand 2. "Every step does what document 01 says: answer, registers, interrupt bits, queues, all 6,144 bytes. After each step from a well-formed state every page is free or in exactly one packet, and the free
@@ -93,15 +91,14 @@ demand1 = record {
   values = refusal-value 24;
   sixteen = λ i c. (sixteen-where 24 i c, sixteen-there 24 i c);
   no17 = never-seventeen 24;
-  short = short-gets-15 24;
+  earlier = told-before 24;
   counts = told-by-count 24;
-  unreached = told-before 24;
   codeNumbers = serves-numbers;
   codeLeaves = serves-leaves;
   codeValues = serves-values;
   codeSixteen = serves-sixteen;
   codeNo17 = serves-no17;
-  codeShort = serves-short;
+  codeEarlier = serves-earlier;
   codeCounts = serves-counts;
 }
 

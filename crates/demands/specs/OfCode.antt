@@ -5,7 +5,7 @@ use mathlib.Core.Logic.{_⊎_}
 use mathlib.Core.List.{List, [], _∷_, _++_, map}
 use Prim.Native.Nat.{ℕ, _+_, _*_, _<_}
 use native.Mathlib.Omega.{arith}
-use lib.ListN.{length, replicate}
+use lib.ListN.{replicate}
 use Rattle.rules.specs.Lists.{member}
 use Rattle.rules.specs.Chip.{Chip, powerUp}
 use Rattle.rules.specs.Answers.{Reply, Turn}
@@ -13,8 +13,8 @@ use Rattle.rules.specs.Registers.{Access, read, byte, word}
 use Rattle.rules.specs.Receive.{Frame}
 use Rattle.rules.specs.Send.{Send}
 use Rattle.rules.specs.Step.{Input, driver, frame, sent, lent, step, run}
-use Rattle.laws.specs.Sendable.{Reaches, ByCount, told-by-count}
-use Rattle.laws.specs.Refusals.{refusals, Valued, numbers-given, refusal-leaves, refusal-value, sixteen-where, never-seventeen, short-gets-15}
+use Rattle.laws.specs.Sendable.{Reaches, ByCount, Before, told-by-count, told-before}
+use Rattle.laws.specs.Refusals.{refusals, Valued, numbers-given, refusal-leaves, refusal-value, sixteen-where, never-seventeen}
 use Rattle.laws.specs.Accounted.{IsFree, InOne}
 use Rattle.laws.specs.Ledger.{Ledger, Resets, blank, ledgerFrom}
 use Rattle.laws.specs.Loads.{Loads}
@@ -81,8 +81,8 @@ module _ (i : Input) (b : Board) (x : Left) (a : Serves i b x) where
       go (yes g) = never-seventeen 24 i (chipOf b) (ap (λ (r : Reply). r .number) (sym (serves-right i b x g a .reply)) ∙ e)
       go (no n) = omega (arith, ap (λ (r : Reply). r .number) (serves-refused i b x n a .reply), e)
 
-pub serves-short : (s : Send) (out : List ℕ) (b : Board) (x : Left) → Good b → Serves (sent s out) b x → length out < 2048 → replyTo x .number ≡ 15
-serves-short s out b x g a h = as-step (sent s out) b x a (λ k. k ≡ 15) g (short-gets-15 24 s out (chipOf b) (good-whole b g) h)
+pub serves-earlier : (s : Send) (out : List ℕ) (b : Board) (x : Left) → Good b → Serves (sent s out) b x → Before s (chipOf b) out (replyTo x)
+serves-earlier s out b x g a = subst (Before s (chipOf b) out) (sym (serves-right (sent s out) b x g a .reply)) (told-before 24 s out (chipOf b) (good-whole b g))
 
 pub serves-counts : (s : Send) (out : List ℕ) (b : Board) (x : Left) → Good b → Serves (sent s out) b x → Reaches s (chipOf b) out → ByCount s (chipOf b) (replyTo x)
 serves-counts s out b x g a r = subst (ByCount s (chipOf b)) (sym (serves-right (sent s out) b x g a .reply)) (told-by-count 24 s out (chipOf b) (good-whole b g) r)

@@ -3,8 +3,7 @@
 use mathlib.Core.Path.{_≡_, refl, ap, sym, _∙_}
 use mathlib.Core.Bool.{true, false, cond, true≢false}
 use mathlib.Core.List.{List, [], _∷_}
-use Prim.Native.Nat.{ℕ, _<_}
-use borrow.Author.Tests.{lt-ltb}
+use Prim.Native.Nat.{ℕ}
 use lib.Dec.{eqb, leb, ltb}
 use lib.ListN.{length}
 use Rattle.rules.specs.Bits.{lowByte}
@@ -228,8 +227,3 @@ module _ (n : ℕ) (i : Input) (c : Chip) where
 
   pub never-seventeen : stepOf n i c .reply .number ≡ 17 → ⊥
   never-seventeen e = true≢false (sym (ap (λ (k : ℕ). member k (0 ∷ 16 ∷ refusals i)) (sym e) ∙ numbers-given n i c) ∙ seventeen-apart i)
-
--- "15 | output buffer under 2,048 bytes": each send lends its own, and a short one gets 15, which comes before every other number of a send.
-pub short-gets-15 : (n : ℕ) (s : Send) (out : List ℕ) (c : Chip) → Fits n c → length out < 2048 → stepOf n (sent s out) c .reply .number ≡ 15
-unfolding serve finish
-short-gets-15 n s out c w h = ap (λ (t : Turn). t .reply .number) (step-fit n (sent s out) c w) ∙ rw (lt-ltb (length out) 2048 h) refl

@@ -8,25 +8,28 @@ use borrow.Author.Tests.{ltb-false, lt-ltb, le-ltb}
 use lib.Dec.{ltb}
 use lib.ListN.{length, getD, drop}
 use Rattle.rules.specs.Bits.{bit}
-use Rattle.rules.specs.Lists.{member}
 use Rattle.rules.specs.Chip.{Chip}
 use Rattle.rules.specs.Answers.{Reply, Turn, refusal, refusalWith, refused, refusedWith}
 use Rattle.rules.specs.Send.{Send, inLimits, byteCount, noPlace, sendHead, ifUsable, ifSendable, byTxHead, finish}
 use Rattle.rules.specs.Step.{sent, serve, stepOf}
-use Rattle.lists.specs.Facts.{Decides, le-decides, eq-decides, _and_, head-and-rest}
+use Rattle.lists.specs.Facts.{Decides, le-decides, eq-decides, _and_, no-head, head-and-rest}
 use Rattle.wellformed.specs.Cases.{pick-by, pick-unless, by-count}
 use Rattle.wellformed.specs.Fit.{Fits, step-fit}
 use Rattle.laws.specs.Head.{headPages, headCount, count-is}
+
+-- an event within its limits: outcome 0 to 5, "collisions (16 with outcome 1, else 0 to 15), deferral (0, 1 deferred, 2 excessive)"
+pub record Within (s : Send) : Type 0 where
+  pub known : s .outcome ≤ 5
+  pub sixteen : s .outcome ≡ 1 → s .collisions ≡ 16
+  pub fewer : (s .outcome ≡ 1 → ⊥) → s .collisions ≤ 15
+  pub deferred : s .deferral ≤ 2
 
 -- a send that comes to the byte count of the packet at the head of TX: neither 15, 11 nor 12
 pub record Reaches (s : Send) (c : Chip) (out : List ℕ) : Type 0 where
   -- refusal 15: "output buffer under 2,048 bytes"
   pub room : 2048 ≤ length out
-  -- refusal 11: outcome 0 to 5, "collisions (16 with outcome 1, else 0 to 15), deferral (0, 1 deferred, 2 excessive)"
-  pub known : s .outcome ≤ 5
-  pub sixteen : s .outcome ≡ 1 → s .collisions ≡ 16
-  pub fewer : (s .outcome ≡ 1 → ⊥) → s .collisions ≤ 15
-  pub deferred : s .deferral ≤ 2
+  -- refusal 11: "event outside its limits"
+  pub limits : Within s
   -- refusal 12: "TXENA clear, or TX FIFO empty"
   pub enabled : bit 0 (c .regs .sending .tcr) ≡ true
   pub waiting : 1 ≤ length (c .pool .tx)
@@ -39,13 +42,25 @@ pub record Sendable (s : Send) (c : Chip) (out : List ℕ) : Type 0 where
   pub within : headCount c ≤ 256 * length (headPages c)
 
 -- The limits of an event, as what they ask.
-limits : (s : Send) → Decides (inLimits s) (((s .outcome ≤ 5) × ((s .outcome ≡ 1 → s .collisions ≡ 16) × ((s .outcome ≡ 1 → ⊥) → s .collisions ≤ 15))) × (s .deferral ≤ 2))
+within-decides : (s : Send) → Decides (inLimits s) (Within s)
 unfolding inLimits
-limits s = le-decides (s .outcome) 5 and by-one (eq-decides (s .outcome) 1) (eq-decides (s .collisions) 16) (le-decides (s .collisions) 15) and le-decides (s .deferral) 2
+within-decides s =
+    let d = le-decides (s .outcome) 5 and by-one (eq-decides (s .outcome) 1) (eq-decides (s .collisions) 16) (le-decides (s .collisions) 15) and le-decides (s .deferral) 2 in
+    record {
+      sound = λ t. let w = d .sound t in record { known = w .0 .0; sixteen = w .0 .1 .0; fewer = w .0 .1 .1; deferred = w .1 };
+      complete = λ w. d .complete ((w .known, (w .sixteen, w .fewer)), w .deferred);
+    }
   where
     by-one : {a b d : Bool} {P Q R : Type 0} → Decides a P → Decides b Q → Decides d R → Decides (cond a b d) ((P → Q) × ((P → ⊥) → R))
     by-one {a = true} p q r = record { sound = λ t. (λ x. q .sound t, λ n. absurd (n (p .sound refl))); complete = λ w. q .complete (w .0 (p .sound refl)) }
     by-one {a = false} p q r = record { sound = λ t. (λ x. absurd (true≢false (sym (p .complete x))), λ n. r .sound t); complete = λ w. r .complete (w .1 (λ x. true≢false (sym (p .complete x)))) }
+
+outside-limits : (s : Send) → (Within s → ⊥) → inLimits s ≡ false
+outside-limits s n = go (inLimits s) (within-decides s)
+  where
+    go : (b : Bool) → Decides b (Within s) → b ≡ false
+    go true d = absurd (n (d .sound refl))
+    go false d = refl
 
 -- what is known of a turn that is done: it sent the head of TX
 pub record Served (s : Send) (c : Chip) (out : List ℕ) (t : Turn) : Type 0 where
@@ -64,14 +79,27 @@ module _ (s : Send) (c : Chip) (out : List ℕ) where
       go : 2048 ≤ length out → inLimits s ≡ true → bit 0 (c .regs .sending .tcr) ≡ true → (l : List ℕ) → c .pool .tx ≡ l → P (byTxHead s l c out)
       go room i b [] e = r12
       go room i b (k ∷ ks) e =
-          let w = limits s .sound i in
-          subst (λ (m : List ℕ). P (ifSendable s (getD m 0 0) (drop 1 m) c out)) e
-          (h (record { room = room; known = w .0 .0; sixteen = w .0 .1 .0; fewer = w .0 .1 .1; deferred = w .1; enabled = b; waiting = rw e (omega arith) }))
+          subst (λ (m : List ℕ). P (ifSendable s (getD m 0 0) (drop 1 m) c out)) e (h (record { room = room; limits = within-decides s .sound i; enabled = b; waiting = rw e (omega arith) }))
 
-  -- One that does not come to the count gets 15, 11 or 12.
-  not-reached : (Reaches s c out → ⊥) → member (finish s c out .reply .number) (15 ∷ 11 ∷ 12 ∷ []) ≡ true
-  unfolding member
-  not-reached h = by-reach (λ t. member (t .reply .number) (15 ∷ 11 ∷ 12 ∷ []) ≡ true) refl refl refl (λ r. absurd (h r))
+  -- One that does not come to the count gets 15, 11 or 12, in that order.
+  short-output : length out < 2048 → finish s c out ≡ refused 15 c out
+  unfolding finish
+  short-output l = rw (lt-ltb (length out) 2048 l)
+
+  module _ (room : 2048 ≤ length out) where
+    outside : (Within s → ⊥) → finish s c out ≡ refused 11 c out
+    unfolding finish
+    outside n = rw (le-ltb (length out) 2048 room, outside-limits s n)
+
+    module _ (w : Within s) where
+      not-enabled : bit 0 (c .regs .sending .tcr) ≡ false → finish s c out ≡ refused 12 c out
+      unfolding finish
+      not-enabled e = rw (le-ltb (length out) 2048 room, within-decides s .complete w, e)
+
+      none-queued : bit 0 (c .regs .sending .tcr) ≡ true → length (c .pool .tx) ≡ 0 → finish s c out ≡ refused 12 c out
+      unfolding finish
+      none-queued e h =
+          rw (le-ltb (length out) 2048 room, within-decides s .complete w, e) (ap (λ (l : List ℕ). byTxHead s l c out) (no-head (c .pool .tx) h))
 
   -- A send that is done was sendable, and sent the head of TX.
   pub served : finish s c out .reply .number ≡ 0 → Served s c out (finish s c out)
@@ -101,7 +129,7 @@ module _ (s : Send) (c : Chip) (out : List ℕ) where
     reached : finish s c out ≡ ifSendable s (getD (c .pool .tx) 0 0) (drop 1 (c .pool .tx)) c out
     unfolding finish
     reached =
-        rw (le-ltb (length out) 2048 (r .room), limits s .complete ((r .known, (r .sixteen, r .fewer)), r .deferred), r .enabled)
+        rw (le-ltb (length out) 2048 (r .room), within-decides s .complete (r .limits), r .enabled)
         (ap (λ (l : List ℕ). byTxHead s l c out) (head-and-rest (c .pool .tx) 0 (r .waiting)))
 
     odd-count : bit 0 (headCount c) ≡ true → finish s c out ≡ refusedWith 13 (headCount c) c out
@@ -139,6 +167,14 @@ pub record ByCount (s : Send) (c : Chip) (r : Reply) : Type 0 where
   pub full : bit 0 (headCount c) ≡ false → 12 ≤ headCount c → headCount c ≤ 256 * length (headPages c) → noPlace s c ≡ true → r ≡ refusal 14
   pub sends : bit 0 (headCount c) ≡ false → 12 ≤ headCount c → headCount c ≤ 256 * length (headPages c) → noPlace s c ≡ false → r .number ≡ 0
 
+-- The reply to any other send: "Sends 16, 15, 11, 12", in that order, whatever the count.
+pub record Before (s : Send) (c : Chip) (out : List ℕ) (r : Reply) : Type 0 where
+  -- each send lends its own buffer, and a short one gets 15
+  pub short : length out < 2048 → r ≡ refusal 15
+  pub outside : 2048 ≤ length out → (Within s → ⊥) → r ≡ refusal 11
+  pub disabled : 2048 ≤ length out → Within s → bit 0 (c .regs .sending .tcr) ≡ false → r ≡ refusal 12
+  pub empty : 2048 ≤ length out → Within s → bit 0 (c .regs .sending .tcr) ≡ true → length (c .pool .tx) ≡ 0 → r ≡ refusal 12
+
 -- Of a step, at any part size n: it goes by the count where the send comes to it, and else it is refused with a number that stands before.
 module _ (n : ℕ) (s : Send) (out : List ℕ) (c : Chip) (w : Fits n c) where
   as-finish : stepOf n (sent s out) c ≡ finish s c out
@@ -157,5 +193,10 @@ module _ (n : ℕ) (s : Send) (out : List ℕ) (c : Chip) (w : Fits n c) where
     sends = λ e l m f. ap (λ (t : Turn). t .reply .number) as-finish ∙ sendable-done s c out (record { reaches = r; evenCount = e; least = l; within = m }) f;
   }
 
-  pub told-before : (Reaches s c out → ⊥) → member (stepOf n (sent s out) c .reply .number) (15 ∷ 11 ∷ 12 ∷ []) ≡ true
-  told-before h = ap (λ (t : Turn). member (t .reply .number) (15 ∷ 11 ∷ 12 ∷ [])) as-finish ∙ not-reached s c out h
+  pub told-before : Before s c out (stepOf n (sent s out) c .reply)
+  told-before = record {
+    short = λ l. reply-is (short-output s c out l);
+    outside = λ l m. reply-is (outside s c out l m);
+    disabled = λ l w e. reply-is (not-enabled s c out l w e);
+    empty = λ l w e h. reply-is (none-queued s c out l w e h);
+  }
