@@ -1,19 +1,41 @@
-// Accesses to the sixteen I/O addresses, on a state that is in order: one table for reads and one for writes, over all banks.
+// Accesses to the sixteen I/O addresses, on a state that is in order: where the register of an access stands, and one table for reads and one for writes, over all banks.
 mod reads; // reads.rt: reads
 mod writes; // writes.rt: writes
 
 pub use reads::read;
+pub use reads::read_register;
+use state::BANK;
 use state::Width;
 pub use writes::write;
+pub use writes::write_register;
 ghost use mathlib.Core.Path.{_≡_};
+ghost use Prim.Native.Nat.{_/_};
+ghost use lib.Dec.{eqb};
+ghost use lib.ListN.{length};
 ghost use Rattle.accesses.specs.Lanes.{wide};
+ghost use Rattle.accesses.specs.Reach.{placeOf};
 
 // Does the access move two bytes of data?
-fn is_wide(width: Width) -> bool
+pub fn is_wide(width: Width) -> bool
     ensures { λ b. ⌜ b ≡ wide width ⌝ }
 {
     match width {
         Width::Byte => false,
         Width::Word => true,
     }
+}
+
+// Where the register of an access stands: at bank * 8 + offset / 2.
+pub fn place(words: &[u16], offset: u8) -> usize
+    requires { ⌜ length (now words) ≡ 32 ⌝ }
+    ensures { λ r. ⌜ r ≡ placeOf (now (words .entry)) offset ⌝ }
+{
+    words[BANK] as usize % 8 * 8 + offset as usize / 2
+}
+
+// Is it data's place: bank 2, offsets 8 to B?
+pub fn is_data(at: usize) -> bool
+    ensures { λ b. ⌜ b ≡ eqb (at / 2) 10 ⌝ }
+{
+    at / 2 == 10
 }

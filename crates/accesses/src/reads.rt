@@ -1,5 +1,7 @@
 // Reads.
+use crate::is_data;
 use crate::is_wide;
+use crate::place;
 use state::Answer;
 use state::BANK;
 use state::COMMAND;
@@ -23,12 +25,16 @@ use state::TABLE_3;
 use state::TCR;
 use state::Width;
 ghost use mathlib.Core.Path.{_≡_};
+ghost use mathlib.Core.List.{List};
+ghost use Prim.Native.Nat.{ℕ, _/_};
 ghost use lib.ListN.{length};
+ghost use Rattle.rules.specs.Chip.{Layout};
 ghost use Rattle.rules.specs.Registers as rules;
 ghost use Rattle.state.specs.declared.Answer.the-variants as Answer;
-ghost use Rattle.state.specs.Meaning.{widthOf};
-ghost use Rattle.state.specs.View.{view};
-ghost use Rattle.state.specs.Promise.{Ready, Makes};
+ghost use Rattle.state.specs.Meaning.{widthOf, Placed};
+ghost use Rattle.state.specs.View.{figures, view, viewOf, Kept};
+ghost use Rattle.state.specs.Promise.{QueuesIn, PagesIn, Ready, MakesOf, Makes};
+ghost use Rattle.accesses.specs.Reach.{placeOf};
 
 // Done, with what the access takes of the word.
 fn gives(width: Width, offset: u8, word: u16) -> Answer
@@ -37,23 +43,19 @@ fn gives(width: Width, offset: u8, word: u16) -> Answer
     Answer::Done(state::taken(width, offset, word))
 }
 
-// The register that an access reaches stands at bank * 8 + offset / 2. Neighbouring places are dealt out to two arms with one body, for the compiler alone:
-// a run of places in one arm is tested once more behind its table, by up to 8 instructions. Data comes last, as an arm for each of its places would be two calls.
-pub fn read(
+// A read of the register at a place that is not data's: it looks at no packet's pages. Neighbouring places are dealt out to two arms with one body, for the compiler
+// alone: a run of places in one arm is tested once more behind its table, by up to 8 instructions.
+pub fn read_register(
     words: &mut [u16],
-    sets: &[u32],
     queues: &[u8],
-    memory: &[u8],
+    at: usize,
     width: Width,
     offset: u8,
 ) -> Answer
-    requires { ⌜ Ready (now words) (now sets) (now queues) × (length (now memory) ≡ 6144) ⌝ }
-    ensures { λ a. ⌜ Makes (rules.access (rules.read (widthOf width) offset) (view (now (words .entry)) (now (sets .entry)) (now (queues .entry)) (now (memory .entry)))) a (now (words .exit)) (now (sets .entry)) (now (queues .entry)) (now (memory .entry)) ⌝ }
+    requires { ⌜ Kept (now words) × QueuesIn (figures (now words)) (now queues) × Placed width offset × (at ≡ placeOf (now words) offset) × (at / 2 ≡ 10 → ⊥) × ((l : Layout) × (s : List ℕ) × PagesIn l (figures (now words)) s) ⌝ }
+    ensures done { λ a. ⌜ ((l : Layout) (s mem : List ℕ) → PagesIn l (figures (now (words .entry))) s → MakesOf l (rules.access (rules.read (widthOf width) offset) (viewOf l (now (words .entry)) s (now (queues .entry)) mem)) a (now (words .exit)) s (now (queues .entry)) mem) ⌝ }
+    ensures long { λ a. ⌜ length (now (words .exit)) ≡ 32 ⌝ }
 {
-    if state::misplaced(width, offset) {
-        return Answer::Misplaced;
-    }
-    let at = words[BANK] as usize % 8 * 8 + offset as usize / 2;
     match at {
         ECR => gives(width, offset, registers::read_ecr(words)),
         MIR => gives(width, offset, words[MIR]),
@@ -72,13 +74,29 @@ pub fn read(
             offset,
             words[at],
         ),
-        _ => {
-            if at < INTERRUPT {
-                data::read_data(words, sets, queues, memory, is_wide(width))
-            } else {
-                // banks 5 to 7
-                gives(width, offset, 0x3333)
-            }
-        }
+        // banks 5 to 7
+        _ => gives(width, offset, 0x3333),
     }
+}
+
+// A read: of data, or of another register.
+pub fn read(
+    words: &mut [u16],
+    sets: &[u32],
+    queues: &[u8],
+    memory: &[u8],
+    width: Width,
+    offset: u8,
+) -> Answer
+    requires { ⌜ Ready (now words) (now sets) (now queues) × (length (now memory) ≡ 6144) ⌝ }
+    ensures { λ a. ⌜ Makes (rules.access (rules.read (widthOf width) offset) (view (now (words .entry)) (now (sets .entry)) (now (queues .entry)) (now (memory .entry)))) a (now (words .exit)) (now (sets .entry)) (now (queues .entry)) (now (memory .entry)) ⌝ }
+{
+    if state::misplaced(width, offset) {
+        return Answer::Misplaced;
+    }
+    let at = place(words, offset);
+    if is_data(at) {
+        return data::read_data(words, sets, queues, memory, is_wide(width));
+    }
+    read_register(words, queues, at, width, offset)
 }

@@ -1,7 +1,8 @@
 // Writes.
+use crate::is_data;
 use crate::is_wide;
+use crate::place;
 use state::Answer;
-use state::BANK;
 use state::COMMAND;
 use state::CONTROL;
 use state::ECR;
@@ -24,12 +25,14 @@ use state::TCR;
 use state::Width;
 ghost use mathlib.Core.Path.{_≡_};
 ghost use mathlib.Core.List.{List};
-ghost use Prim.Native.Nat.{ℕ};
+ghost use Prim.Native.Nat.{ℕ, _/_};
 ghost use lib.ListN.{length};
+ghost use Rattle.rules.specs.Chip.{Layout};
 ghost use Rattle.rules.specs.Registers as rules;
 ghost use Rattle.state.specs.Meaning.{widthOf, Placed};
-ghost use Rattle.state.specs.View.{view};
-ghost use Rattle.state.specs.Promise.{Ready, Makes};
+ghost use Rattle.state.specs.View.{figures, view, viewOf, Kept};
+ghost use Rattle.state.specs.Promise.{QueuesIn, PagesIn, Ready, MakesOf, Makes};
+ghost use Rattle.accesses.specs.Reach.{placeOf};
 
 // The low byte is the command; the high byte is read-only.
 fn write_command(
@@ -49,7 +52,41 @@ fn write_command(
     commands::commanded(words, sets, queues, bits::low_byte(value))
 }
 
-// The table is as that of `read`, but that banks 5 to 7 have their arms here, so that what is left is data.
+// A write to the register at a place that is not data's, RCR's or the command's: it looks at no packet's pages, and changes none. The table is as that of `read_register`.
+pub fn write_register(
+    words: &mut [u16],
+    queues: &mut [u8],
+    at: usize,
+    width: Width,
+    offset: u8,
+    value: u16,
+) -> Answer
+    requires { ⌜ Kept (now words) × QueuesIn (figures (now words)) (now queues) × Placed width offset × (at ≡ placeOf (now words) offset) × (at / 2 ≡ 10 → ⊥) × (at ≡ 2 → ⊥) × (at ≡ 16 → ⊥) × ((l : Layout) × (s : List ℕ) × PagesIn l (figures (now words)) s) ⌝ }
+    ensures done { λ a. ⌜ ((l : Layout) (s mem : List ℕ) → PagesIn l (figures (now (words .entry))) s → MakesOf l (rules.access (rules.write (widthOf width) offset value) (viewOf l (now (words .entry)) s (now (queues .entry)) mem)) a (now (words .exit)) s (now (queues .exit)) mem) ⌝ }
+    ensures long { λ a. ⌜ (length (now (words .exit)) ≡ 32) × (length (now (queues .exit)) ≡ 72) ⌝ }
+{
+    match at {
+        TCR => registers::write_tcr(words, width, offset, value),
+        RESERVED => registers::write_reserved(words, width, offset, value),
+        PACKET => registers::write_packet(words, width, offset, value),
+        INTERRUPT => registers::write_interrupt(words, queues, width, offset, value),
+        7 | 15 | 23 | 31 | 39 | 47 | 55 | 63 => {
+            registers::write_bank(words, width, offset, value)
+        }
+        EPHSR | ECR | HEADS => Answer::ReadOnly,
+        MIR => Answer::ReadOnly,
+        6 | 8 | 13 | 28 | 30 | 32 | 34 | 36 | 38 => Answer::NotModelled,
+        9 | 29 | 33 | 35 | 37 => Answer::NotModelled,
+        STATION | STATION_2 | CONTROL | POINTER | TABLE | TABLE_2 => {
+            registers::write_word(words, at, width, offset, value)
+        }
+        STATION_1 | TABLE_1 | TABLE_3 => { registers::write_word(words, at, width, offset, value) }
+        // banks 5 to 7: ignored
+        _ => Answer::Done(0),
+    }
+}
+
+// A write: to data, to one of the two registers that may free or grant pages, or to another.
 pub fn write(
     words: &mut [u16],
     sets: &mut [u32],
@@ -65,28 +102,13 @@ pub fn write(
     if state::misplaced(width, offset) {
         return Answer::Misplaced;
     }
-    let at = words[BANK] as usize % 8 * 8 + offset as usize / 2;
+    let at = place(words, offset);
+    if is_data(at) {
+        return data::write_data(words, sets, queues, memory, is_wide(width), value);
+    }
     match at {
-        TCR => registers::write_tcr(words, width, offset, value),
         RCR => registers::write_rcr(words, sets, queues, width, offset, value),
-        RESERVED => registers::write_reserved(words, width, offset, value),
         COMMAND => write_command(words, sets, queues, width, offset, value),
-        PACKET => registers::write_packet(words, width, offset, value),
-        INTERRUPT => registers::write_interrupt(words, queues, width, offset, value),
-        7 | 15 | 23 | 31 | 39 | 47 | 55 | 63 => {
-            registers::write_bank(words, width, offset, value)
-        }
-        EPHSR | ECR | HEADS => Answer::ReadOnly,
-        MIR => Answer::ReadOnly,
-        6 | 8 | 13 | 28 | 30 | 32 | 34 | 36 | 38 => Answer::NotModelled,
-        9 | 29 | 33 | 35 | 37 => Answer::NotModelled,
-        STATION | STATION_2 | CONTROL | POINTER | TABLE | TABLE_2 => {
-            registers::write_word(words, at, width, offset, value)
-        }
-        STATION_1 | TABLE_1 | TABLE_3 => { registers::write_word(words, at, width, offset, value) }
-        // banks 5 to 7: ignored
-        40 | 42 | 44 | 46 | 48 | 50 | 52 | 54 | 56 | 58 | 60 | 62 => Answer::Done(0),
-        41 | 43 | 45 | 49 | 51 | 53 | 57 | 59 | 61 => Answer::Done(0),
-        _ => data::write_data(words, sets, queues, memory, is_wide(width), value),
+        _ => write_register(words, queues, at, width, offset, value),
     }
 }

@@ -2,6 +2,7 @@
 use mathlib.Core.Path.{_≡_, sym, _∙_}
 use mathlib.Core.Bool.{Bool}
 use mathlib.Core.List.{[]}
+use Rattle.rules.specs.Chip.{paged}
 use Rattle.state.specs.declared.Registers.{Registers}
 use Rattle.state.specs.declared.Pages.{Pages}
 use Rattle.state.specs.declared.Queues.{Queues}
@@ -18,7 +19,7 @@ started-once x y p q =
     λ i. record { answer = a i; registers = record { words = e .0 i }; pages = record { sets = e .1 i }; queues = record { slots = e .2 i } }
 
 pub line-once : (r : Registers) (p : Pages) (k : Queues) (a b : Bool) → Lines r p k a → Lines r p k b → a ≡ b
-line-once r p k a b x y = go (ready? (r .words) (p .sets) (k .slots))
+line-once r p k a b x y = go (ready? paged (r .words) (p .sets) (k .slots))
   where
     go : Dec (Ready (r .words) (p .sets) (k .slots)) → a ≡ b
     go (yes o) = x .up o [] ∙ sym (y .up o [])

@@ -2,10 +2,10 @@
 use mathlib.Core.Path.{_≡_, refl, ap, sym, subst, _∙_}
 use mathlib.Core.Bool.{Bool, true, false, not, true≢false}
 use mathlib.Core.List.{List, []}
-use Prim.Native.Nat.{ℕ}
+use Prim.Native.Nat.{ℕ, _*_}
 use borrow.Author.Tests.{not-true, not-false}
 use lib.ListN.{length}
-use Rattle.rules.specs.Chip.{Chip}
+use Rattle.rules.specs.Chip.{Layout, Chip, pageNumbers}
 use Rattle.rules.specs.Answers.{Effect, Turn}
 use Rattle.rules.specs.WellFormed.{FormedAt}
 use Rattle.rules.specs.Registers.{Access, access}
@@ -13,7 +13,7 @@ use Rattle.rules.specs.Receive.{Frame, arrive}
 use Rattle.rules.specs.Send.{Send, finish}
 use Rattle.rules.specs.Step.{Input, driver, frame, sent, lent, serve, step}
 use Rattle.lists.specs.Facts.{Decides}
-use Rattle.wellformed.specs.Fit.{step-fit}
+use Rattle.wellformed.specs.Fit.{Fits, step-fit}
 use Rattle.wellformed.specs.Keeps.{keeps}
 use Rattle.state.specs.declared.Answer.{Answer}
 use Rattle.state.specs.declared.Answer.the-variants.{Damaged}
@@ -21,44 +21,44 @@ use Rattle.state.specs.declared.Registers.{Registers}
 use Rattle.state.specs.declared.Pages.{Pages}
 use Rattle.state.specs.declared.Queues.{Queues}
 use Rattle.state.specs.declared.Returned.{Returned}
-use Rattle.state.specs.View.{view}
-use Rattle.state.specs.Promise.{Makes}
-use Rattle.state.specs.Entry.{InOrder, InOrderBy, Right, Answers}
+use Rattle.state.specs.View.{viewOf, view}
+use Rattle.state.specs.Promise.{MakesOf}
+use Rattle.state.specs.Entry.{InOrderOf, RightOf, InOrderBy, Right, Answers}
 
 -- the effect of a turn
 abbrev pub effectOf : Turn → Effect
 effectOf t = record { reply = t .reply; chip = t .chip }
 
-module _ (w s q mem : List ℕ) (o : InOrder w s q mem) where
+module _ {l : Layout} (w s q mem : List ℕ) (o : InOrderOf l w s q mem) where
   -- What makes the effect of a turn, and leaves its output, is right.
-  right : (i : Input) (a : Answer) (w′ s′ q′ mem′ out′ : List ℕ) → Makes (effectOf (serve i (view w s q mem))) a w′ s′ q′ mem′
-      → out′ ≡ serve i (view w s q mem) .output → Right (step i (view w s q mem)) a w′ s′ q′ mem′ out′
+  right : (i : Input) (a : Answer) (w′ s′ q′ mem′ out′ : List ℕ) → MakesOf l (effectOf (serve i (viewOf l w s q mem))) a w′ s′ q′ mem′
+      → out′ ≡ serve i (viewOf l w s q mem) .output → RightOf l (step i (viewOf l w s q mem)) a w′ s′ q′ mem′ out′
   right i a w′ s′ q′ mem′ out′ p e =
-      let c = view w s q mem in
+      let c = viewOf l w s q mem in
       let same : step i c ≡ serve i c = step-fit 24 i c (o .ready .well, o .full) in
-      let k = subst (λ (t : Turn). FormedAt 24 (t .chip) × (length (t .chip .memory) ≡ 6144)) same (keeps 24 c (o .ready .well, o .full) i) in
+      let k = subst (λ (t : Turn). Fits 24 (t .chip)) same (keeps 24 c (o .ready .well, o .full) i) in
       record {
         chip = p .chip ∙ sym (ap (λ (t : Turn). t .chip) same);
         reply = p .reply ∙ sym (ap (λ (t : Turn). t .reply) same);
         output = e ∙ sym (ap (λ (t : Turn). t .output) same);
         ready = record {
           ready = record { sound = p .sound; well = subst (λ (d : Chip). FormedAt 24 d) (sym (p .chip)) (k .0) };
-          full = ap (λ (d : Chip). length (d .memory)) (p .chip) ∙ k .1;
+          full = ap (λ (d : Chip). length (d .memory)) (p .chip) ∙ k .1 ∙ sym (ap (λ (d : Chip). 256 * pageNumbers (d .pool .layout) 24) (p .chip));
         };
       }
 
   -- Accesses and frames leave the output buffer, which they are not lent.
-  pub right-access : (i : Access) (a : Answer) (w′ s′ q′ mem′ : List ℕ) → Makes (access i (view w s q mem)) a w′ s′ q′ mem′ → Right (step (driver i) (view w s q mem)) a w′ s′ q′ mem′ []
+  pub right-access : (i : Access) (a : Answer) (w′ s′ q′ mem′ : List ℕ) → MakesOf l (access i (viewOf l w s q mem)) a w′ s′ q′ mem′ → RightOf l (step (driver i) (viewOf l w s q mem)) a w′ s′ q′ mem′ []
   unfolding serve
   right-access i a w′ s′ q′ mem′ p = right (driver i) a w′ s′ q′ mem′ [] p refl
 
-  pub right-frame : (f : Frame) (a : Answer) (w′ s′ q′ mem′ : List ℕ) → Makes (arrive f (view w s q mem)) a w′ s′ q′ mem′ → Right (step (frame f) (view w s q mem)) a w′ s′ q′ mem′ []
+  pub right-frame : (f : Frame) (a : Answer) (w′ s′ q′ mem′ : List ℕ) → MakesOf l (arrive f (viewOf l w s q mem)) a w′ s′ q′ mem′ → RightOf l (step (frame f) (viewOf l w s q mem)) a w′ s′ q′ mem′ []
   unfolding serve
   right-frame f a w′ s′ q′ mem′ p = right (frame f) a w′ s′ q′ mem′ [] p refl
 
   -- A send leaves the output that its turn has, of the buffer that it lends.
-  pub right-send : (x : Send) (out : List ℕ) (a : Answer) (w′ s′ q′ mem′ out′ : List ℕ) → Makes (effectOf (finish x (view w s q mem) out)) a w′ s′ q′ mem′
-      → out′ ≡ finish x (view w s q mem) out .output → Right (step (sent x out) (view w s q mem)) a w′ s′ q′ mem′ out′
+  pub right-send : (x : Send) (out : List ℕ) (a : Answer) (w′ s′ q′ mem′ out′ : List ℕ) → MakesOf l (effectOf (finish x (viewOf l w s q mem) out)) a w′ s′ q′ mem′
+      → out′ ≡ finish x (viewOf l w s q mem) out .output → RightOf l (step (sent x out) (viewOf l w s q mem)) a w′ s′ q′ mem′ out′
   unfolding serve
   right-send x out = right (sent x out)
 

@@ -3,24 +3,26 @@ mod decode; // decode.rt: the command that a value asks for
 mod register; // register.rt: the commands on the packet number register
 mod rx; // rx.rt: the commands on the RX head
 
-use decode::decoded;
+pub use decode::decoded;
 use register::do_enqueue;
 use register::do_release;
-use rx::do_remove;
+pub use register::named;
+pub use rx::do_remove;
 use rx::do_remove_and_release;
 use state::Answer;
 use state::NO_PACKET;
 ghost use mathlib.Core.List.{List, map};
 ghost use Prim.Native.Nat.{ℕ, _≤_};
+ghost use Rattle.rules.specs.Chip.{Layout};
 ghost use Rattle.rules.specs.Mmu as rules;
 ghost use Rattle.rules.specs.WellFormed.{GoodPages};
 ghost use Rattle.sets.specs.Views.{pagesOf};
 ghost use Rattle.state.specs.View.{view, figures, Kept};
-ghost use Rattle.state.specs.Promise.{QueuesIn, SetsIn, Sound, Ready, Makes};
-ghost use Rattle.commands.specs.Orders.{Performs};
+ghost use Rattle.state.specs.Promise.{QueuesIn, PagesIn, SetsIn, Sound, Ready, Makes};
+ghost use Rattle.commands.specs.Orders.{PerformsOf, Performs};
 
 // The commands of the MMU command register.
-enum Order {
+pub enum Order {
     Nothing,
     Allocate(u32),
     Reset,
@@ -54,9 +56,9 @@ fn do_reset(words: &mut [u16], sets: &mut [u32], queues: &mut [u8]) -> Answer
     Answer::Done(0)
 }
 
-fn do_reset_tx(words: &mut [u16], queues: &mut [u8]) -> Answer
-    requires { ⌜ Kept (now words) × QueuesIn (figures (now words)) (now queues) ⌝ }
-    ensures { λ a. ⌜ ((s : List ℕ) → SetsIn (figures (now (words .entry))) s → Performs rules.resetTx (now (words .entry)) s (now (queues .entry)) a (now (words .exit)) s (now (queues .exit))) ⌝ }
+pub fn do_reset_tx(words: &mut [u16], queues: &mut [u8]) -> Answer
+    requires { ⌜ Kept (now words) × QueuesIn (figures (now words)) (now queues) × ((l : Layout) × (s : List ℕ) × PagesIn l (figures (now words)) s) ⌝ }
+    ensures { λ a. ⌜ ((l : Layout) (s : List ℕ) → PagesIn l (figures (now (words .entry))) s → PerformsOf l rules.resetTx (now (words .entry)) s (now (queues .entry)) a (now (words .exit)) s (now (queues .exit))) ⌝ }
 {
     pool::empty_tx(words, queues);
     pool::empty_completion(words, queues);

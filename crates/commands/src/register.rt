@@ -15,7 +15,7 @@ ghost use Rattle.state.specs.Promise.{SetsIn, Ready};
 ghost use Rattle.commands.specs.Orders.{Performs};
 
 // The packet that the register names.
-fn named(words: &[u16]) -> Packet
+pub fn named(words: &[u16]) -> Packet
     requires { ⌜ Kept (now words) ⌝ }
     ensures { λ r. ⌜ r .0 ≡ word (now (words .entry)) 17 % 256 ⌝ }
 {

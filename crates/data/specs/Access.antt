@@ -1,12 +1,12 @@
 -- What the parts of a data access promise: which packet the pointer means, where the first byte lies or why it is refused, and what is behind the gate.
 use mathlib.Core.Path.{_≡_}
 use mathlib.Core.Bool.{Bool, true, false, cond, not}
-use mathlib.Core.List.{List, [], _∷_, map}
+use mathlib.Core.List.{List, [], _∷_}
 use Prim.Native.Nat.{ℕ, _*_, _/_, _%_, _<_}
 use lib.ListN.{length, getD, drop}
 use Rattle.rules.specs.Bits.{lowByte, highByte}
 use Rattle.rules.specs.Lists.{some?}
-use Rattle.rules.specs.Chip.{Registers, Chip}
+use Rattle.rules.specs.Chip.{Registers, Layout, paged, Chip}
 use Rattle.rules.specs.Fields.{setPointer, inMemory}
 use Rattle.rules.specs.Answers.{Effect, doneWith, did, refuse}
 use Rattle.rules.specs.Packet.{place, getBytes, putBytes}
@@ -15,7 +15,7 @@ use Rattle.lists.specs.Bytes.{Below}
 use Rattle.sets.specs.Views.{pagesOf}
 use Rattle.state.specs.declared.Answer.{Answer}
 use Rattle.state.specs.Meaning.{replyOf}
-use Rattle.state.specs.View.{word, queueIn, view, Kept}
+use Rattle.state.specs.View.{word, queueIn, listsOf, view, Kept}
 use Rattle.state.specs.Promise.{Sound, Makes}
 use Rattle.data.specs.declared.Gate.{Gate}
 use Rattle.data.specs.declared.Gate.the-variants.{Open, Refused}
@@ -40,12 +40,18 @@ meantBy pointer packet rx = cond (rcv pointer) (headOr24 rx) packet
 abbrev pub meantIn : List ℕ → List ℕ → ℕ
 meantIn w q = meantBy (word w 19) (word w 17 % 256) (queueIn 0 (word w 6) q)
 
+abbrev pub pagesMeantOf : Layout → List ℕ → List ℕ → List ℕ → List ℕ
+pagesMeantOf l w s q = getD (listsOf l s) (meantIn w q) []
+
 abbrev pub pagesMeant : List ℕ → List ℕ → List ℕ → List ℕ
-pagesMeant w s q = getD (map pagesOf s) (meantIn w q) []
+pagesMeant = pagesMeantOf paged
 
 -- the number of the refusal where the first byte is refused: 7 or 5 where the packet has no pages, then 8, 9 and 10
-unfoldable pub refusalOf : Bool → ℕ → List ℕ → ℕ
-refusalOf isRead p pages = cond (not (some? pages)) (cond (rcv p) 7 5) (cond (against isRead p) 8 (cond (oddFixed p) 9 10))
+unfoldable pub refusalIf : Bool → Bool → ℕ → ℕ
+refusalIf hasPages isRead p = cond (not hasPages) (cond (rcv p) 7 5) (cond (against isRead p) 8 (cond (oddFixed p) 9 10))
+
+abbrev pub refusalOf : Bool → ℕ → List ℕ → ℕ
+refusalOf isRead p pages = refusalIf (some? pages) isRead p
 
 -- an access by the pointer p to a packet with these pages: refusal 7 or 5 where there are none, then 8, 9 and 10
 unfoldable pub ifAny : Bool → ℕ → ℕ → List ℕ → Chip → Effect → Effect

@@ -18,10 +18,10 @@ ghost use Rattle.sets.specs.Views.{pagesOf};
 ghost use Rattle.state.specs.Meaning.{replyOf};
 ghost use Rattle.state.specs.View.{word, figures, Kept};
 ghost use Rattle.state.specs.Promise.{QueuesIn, Sound};
-ghost use Rattle.data.specs.Access.{meantIn, pagesMeant, refusalOf, Guards};
+ghost use Rattle.data.specs.Access.{meantIn, pagesMeant, refusalIf, Guards};
 
 // RCV set means the head of RX, clear means the packet number register. No packet has the number PACKETS, which stands for the head of an empty RX.
-fn meant(words: &[u16], queues: &[u8]) -> Packet
+pub fn meant(words: &[u16], queues: &[u8]) -> Packet
     requires { ⌜ Kept (now words) × QueuesIn (figures (now words)) (now queues) ⌝ }
     ensures { λ k. ⌜ k .0 ≡ meantIn (now (words .entry)) (now (queues .entry)) ⌝ }
 {
@@ -35,7 +35,7 @@ fn meant(words: &[u16], queues: &[u8]) -> Packet
 }
 
 // Refusal 8: is the access against the READ bit?
-fn is_against(pointer: u16, reading: bool) -> bool
+pub fn is_against(pointer: u16, reading: bool) -> bool
     ensures { λ b. ⌜ b ≡ against reading pointer ⌝ }
 {
     if reading {
@@ -45,7 +45,7 @@ fn is_against(pointer: u16, reading: bool) -> bool
 }
 
 // Refusal 9: is the pointer odd, and AUTO INCR clear?
-fn is_odd_fixed(pointer: u16) -> bool
+pub fn is_odd_fixed(pointer: u16) -> bool
     ensures { λ b. ⌜ b ≡ oddFixed pointer ⌝ }
 {
     bits::both(
@@ -55,10 +55,10 @@ fn is_odd_fixed(pointer: u16) -> bool
 }
 
 // The refusals in their order: 7 or 5, 8, 9, 10.
-fn refusal(set: u32, reading: bool, pointer: u16) -> Answer
-    ensures { λ a. ⌜ replyOf a ≡ rules.refusal (refusalOf reading pointer (pagesOf set)) ⌝ }
+pub fn refusal(has_pages: bool, reading: bool, pointer: u16) -> Answer
+    ensures { λ a. ⌜ replyOf a ≡ rules.refusal (refusalIf «has_pages» reading pointer) ⌝ }
 {
-    if !sets::has_pages(set) {
+    if !has_pages {
         if bits::is_set(pointer, flags::RCV) {
             return Answer::RxEmpty;
         }
@@ -88,7 +88,7 @@ fn checked(set: u32, reading: bool, pointer: u16) -> Gate
     let rest = sets::without(set, pointer as u32 % 2048 / PAGE_BYTES);
     let refused = bits::either(is_against(pointer, reading), is_odd_fixed(pointer));
     if bits::either(rest == 0, refused) {
-        return Gate::Refused(refusal(set, reading, pointer));
+        return Gate::Refused(refusal(sets::has_pages(set), reading, pointer));
     }
     Gate::Open(place_in(rest, Address(pointer)), rest)
 }

@@ -4,6 +4,11 @@ mod pointer; // pointer.rt: the pointer after an access
 mod reads; // reads.rt: reads behind the gate
 mod writes; // writes.rt: writes behind the gate
 
+pub use checks::is_against;
+pub use checks::is_odd_fixed;
+pub use checks::meant;
+pub use checks::refusal;
+pub use pointer::advance;
 use state::Answer;
 ghost use mathlib.Core.Path.{_≡_};
 ghost use lib.ListN.{length};

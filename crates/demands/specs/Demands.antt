@@ -7,7 +7,7 @@ use mathlib.Core.Logic.{_⊎_}
 use mathlib.Core.List.{List, _∷_, _++_, map}
 use Prim.Native.Nat.{ℕ, _<_}
 use Rattle.rules.specs.Lists.{member}
-use Rattle.rules.specs.Chip.{Chip, powerUp}
+use Rattle.rules.specs.Chip.{paged, Chip, powerUp}
 use Rattle.rules.specs.Interrupts.{lineUp}
 use Rattle.rules.specs.Registers.{Access}
 use Rattle.rules.specs.Receive.{Frame}
@@ -35,7 +35,7 @@ pub record Demand1 : Type 0 where
   pub leaves : (i : Input) (c : Chip) → (step i c .reply .number ≡ 0 → ⊥) → Unchanged c (lent i) (step i c)
   -- its value is 0, but in 13, 18 and 19 the byte count: the word at addresses 2 and 3 of the packet at the head of TX
   pub values : (i : Input) (c : Chip) → (step i c .reply .number ≡ 0 → ⊥) → Valued c (step i c .reply)
-  -- 16 exactly where the memory has not 6,144 bytes or the chip is not well formed; 17 never
+  -- 16 exactly where the memory has not 6,144 bytes (of strips 49,152) or the chip is not well formed; 17 never
   pub sixteen : (i : Input) (c : Chip) → (step i c .reply .number ≡ 16 → Whole c → ⊥) × ((Whole c → ⊥) → step i c .reply .number ≡ 16)
   pub no17 : (i : Input) (c : Chip) → step i c .reply .number ≡ 17 → ⊥
   -- a send gets 15 where its buffer has not 2,048 bytes, else 11 where its event is outside the limits, else 12 where TXENA is clear or TX is empty
@@ -54,10 +54,11 @@ pub record Demand1 : Type 0 where
 -- Demand 2. "Every step does what document 01 says: answer, registers, interrupt bits, queues, all 6,144 bytes. After each step from a well-formed state every page is free or in exactly one packet, and the free
 -- count that the driver reads is 24 less the pages granted plus those given back, counted over the steps since power-up or the last soft or MMU reset."
 pub record Demand2 : Type 0 where
-  -- a chip is well formed, with its 6,144 bytes, at power-up and after each step from one that is
+  -- a chip is well formed, with its 6,144 bytes (one of strips with 49,152), at power-up and after each step from one that is
   pub powers : Whole powerUp
   pub keeps : (i : Input) (c : Chip) → Whole c → Whole (step i c .chip)
-  pub pages : (i : Input) (c : Chip) → Whole c → (p : ℕ) → p < 24 → IsFree (step i c .chip) p ⊎ InOne (step i c .chip) p
+  -- on a chip of pages (on one of strips, document 02's W3, no step changes which pages are a packet's own)
+  pub pages : (i : Input) (c : Chip) → Whole c → c .pool .layout ≡ paged → (p : ℕ) → p < 24 → IsFree (step i c .chip) p ⊎ InOne (step i c .chip) p
   -- MIR read as a byte and as a word, after selecting bank 0 from any bank or in bank 0 already, balances the ledger: after every history from power-up, and after every run from any well-formed chip, whatever was granted
   -- before, once a step of it was a soft or MMU reset
   pub ledger : (inputs : List Input) → Balances (history inputs .chip) (ledgerFrom 24 inputs powerUp (blank 24))

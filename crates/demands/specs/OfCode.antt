@@ -7,7 +7,7 @@ use Prim.Native.Nat.{ℕ, _+_, _*_, _<_}
 use native.Mathlib.Omega.{arith}
 use lib.ListN.{replicate}
 use Rattle.rules.specs.Lists.{member}
-use Rattle.rules.specs.Chip.{Chip, powerUp}
+use Rattle.rules.specs.Chip.{paged, Chip, powerUp}
 use Rattle.rules.specs.Answers.{Reply, Turn}
 use Rattle.rules.specs.Registers.{Access, read, byte, word}
 use Rattle.rules.specs.Receive.{Frame}
@@ -28,7 +28,7 @@ use Rattle.demands.specs.Boards.{Board, Left, leftOf, replyTo, chipOf, G
 
 -- Whether a board is in order is decided.
 good? : (b : Board) → Dec (Good b)
-good? b = decided (b .registers .words) (b .pages .sets) (b .queues .slots) (b .memory)
+good? b = decided paged (b .registers .words) (b .pages .sets) (b .queues .slots) (b .memory)
 
 -- A board in order stands for a well-formed chip with its memory.
 good-whole : (b : Board) → Good b → Whole (chipOf b)
@@ -89,7 +89,7 @@ serves-counts s out b x g a r = subst (ByCount s (chipOf b)) (sym (serves-right 
 
 -- Demand 2.
 pub serves-pages : (i : Input) (b : Board) (x : Left) → Good b → Serves i b x → (p : ℕ) → p < 24 → IsFree (chipOf (x .board)) p ⊎ InOne (chipOf (x .board)) p
-serves-pages i b x g a p h = subst (λ (c : Chip). IsFree c p ⊎ InOne c p) (sym (serves-right i b x g a .chip)) (pages-accounted i (chipOf b) (good-whole b g) p h)
+serves-pages i b x g a p h = subst (λ (c : Chip). IsFree c p ⊎ InOne c p) (sym (serves-right i b x g a .chip)) (pages-accounted i (chipOf b) (good-whole b g) refl p h)
 
 -- the board at power-up: what `chip::power_up` returned, beside 6,144 zero bytes
 abbrev pub started : Returned → Board

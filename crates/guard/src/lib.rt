@@ -2,12 +2,12 @@
 mod fifos; // fifos.rt: the three queues
 mod words; // words.rt: the registers
 
-use fifos::queues_good;
+pub use fifos::queues_good;
 use state::MIR;
 use state::PACKET;
 use state::WAITING;
-use words::request_good;
-use words::words_good;
+pub use words::request_good;
+pub use words::words_good;
 ghost use mathlib.Core.Path.{_≡_};
 ghost use lib.ListN.{length};
 ghost use Rattle.lists.specs.Facts.{Decides};

@@ -1,5 +1,5 @@
 -- Every page is free or in exactly one packet, at one place of its list; and a number is free when a page is.
-use mathlib.Core.Path.{_≡_, refl, ap, sym, _∙_}
+use mathlib.Core.Path.{_≡_, refl, ap, sym, subst, _∙_}
 use mathlib.Core.Bool.{Bool, true, false, _||_, true≢false}
 use mathlib.Core.Logic.{_⊎_, inl, inr, ⊎-elim}
 use mathlib.Core.List.{List, [], _∷_, _++_}
@@ -10,7 +10,7 @@ use borrow.Author.Tests.{eq-eqb}
 use lib.Dec.{eqb}
 use lib.ListN.{length, getD}
 use Rattle.rules.specs.Lists.{member, some?, owned, unless, freeBelow, firstEmpty}
-use Rattle.rules.specs.Chip.{Chip, size, pagesAt, free, allocated}
+use Rattle.rules.specs.Chip.{Layout, paged, Chip, size, pagesAt, freeFor, free, allocated}
 use Rattle.rules.specs.WellFormed.{Above, Ascending, FormedAt}
 use Rattle.rules.specs.Step.{Input, stepOf}
 use Rattle.lists.specs.Facts.{if-not, or-true, member-cases, member-first, member-at, member-free}
@@ -20,6 +20,7 @@ use Rattle.wellformed.specs.Pages.{first-empty}
 use Rattle.wellformed.specs.Pool.{number-free}
 use Rattle.wellformed.specs.Fit.{Fits}
 use Rattle.wellformed.specs.Keeps.{keeps}
+use Rattle.laws.specs.Layout.{layout-stays}
 
 -- A page is in exactly one packet, at exactly one place of its list, and not listed as free.
 pub record InOne (c : Chip) (p : ℕ) : Type 0 where
@@ -85,12 +86,13 @@ free-listed (suc n) ls p h o = go (free-listed n ls p) (ℕ-discrete p n)
     go f (no d) = member-left p (freeBelow n ls) (unless (owned n ls) n) (f (omega arith) o)
 
 module _ (n : ℕ) (c : Chip) (w : FormedAt n c) where
-  pub accounted : (p : ℕ) → p < size c → IsFree c p ⊎ InOne c p
-  accounted p h = go (owned p (c .pool .pages)) refl
+  -- of a chip of pages
+  pub accounted : c .pool .layout ≡ paged → (p : ℕ) → p < size c → IsFree c p ⊎ InOne c p
+  accounted e p h = go (owned p (c .pool .pages)) refl
     where
       go : (b : Bool) → owned p (c .pool .pages) ≡ b → IsFree c p ⊎ InOne c p
       go false o = inl (record {
-        listed = free-listed (size c) (c .pool .pages) p h o;
+        listed = subst (λ (l : Layout). member p (freeFor l (c .pool .pages)) ≡ true) (sym e) (free-listed (size c) (c .pool .pages) p h o);
         unowned = λ k. if-not (member p (pagesAt c k)) (λ m. true≢false (sym (owned-in p (c .pool .pages) k m) ∙ o));
       })
       go true o =
@@ -103,7 +105,7 @@ module _ (n : ℕ) (c : Chip) (w : FormedAt n c) where
             place = i .0;
             there = (i .1, i .2);
             alone = λ j x b e. (same j x b e, once-in (pagesAt c (k .0)) (w .pages .ascend (k .0)) x (i .0) (rw (same j x b e) at b) (i .1) ((rw (same j x b e) at e) ∙ sym (i .2)));
-            taken = if-not (member p (free c)) (λ m. true≢false (sym o ∙ member-free (size c) (c .pool .pages) p m .1));
+            taken = if-not (member p (free c)) (λ m. true≢false (sym o ∙ member-free (size c) (c .pool .pages) p (subst (λ (l : Layout). member p (freeFor l (c .pool .pages)) ≡ true) e m) .1));
           })
 
   -- A number is free when a page is: a grant and a stored frame find one.
@@ -112,5 +114,5 @@ module _ (n : ℕ) (c : Chip) (w : FormedAt n c) where
   number-when-page h = (number-free w h, ap some? (first-empty (c .pool .pages)))
 
 -- After each step from a well-formed chip.
-pub accounted-after : (n : ℕ) (i : Input) (c : Chip) → Fits n c → (p : ℕ) → p < size (stepOf n i c .chip) → IsFree (stepOf n i c .chip) p ⊎ InOne (stepOf n i c .chip) p
-accounted-after n i c w = accounted n (stepOf n i c .chip) (keeps n c w i .0)
+pub accounted-after : (n : ℕ) (i : Input) (c : Chip) → Fits n c → c .pool .layout ≡ paged → (p : ℕ) → p < size (stepOf n i c .chip) → IsFree (stepOf n i c .chip) p ⊎ InOne (stepOf n i c .chip) p
+accounted-after n i c w e = accounted n (stepOf n i c .chip) (keeps n c w i .0) (layout-stays n i c ∙ e)

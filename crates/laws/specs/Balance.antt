@@ -4,16 +4,18 @@ use mathlib.Core.List.{List, [], _∷_, _++_, map}
 use Prim.Native.Nat.{ℕ, zero, suc, _+_, _≤_, _<_}
 use native.Mathlib.Omega.{arith}
 use lib.ListN.{length, getD, set, take, replicate, length-take, List·getD-map}
-use Rattle.rules.specs.Lists.{firstEmpty}
-use Rattle.rules.specs.Chip.{Chip, free, powered}
+use Rattle.rules.specs.Lists.{total, firstEmpty}
+use Rattle.rules.specs.Chip.{Layout, Chip, free, powered}
 use Rattle.rules.specs.Step.{Input, stepOf, runOf}
 use Rattle.lists.specs.Facts.{map-set}
 use Rattle.wellformed.specs.Pages.{first-empty}
-use Rattle.wellformed.specs.Count.{total, total-set, free-and-total}
+use Rattle.wellformed.specs.Count.{total-set}
+use Rattle.wellformed.specs.Layouts.{free-total}
+use Rattle.wellformed.specs.Pool.{good-lists}
 use Rattle.wellformed.specs.Fit.{Fits}
 use Rattle.wellformed.specs.Keeps.{keeps, powered-fits}
 use Rattle.laws.specs.Ledger.{Entry, returns, restarts, just, entriesOf, Resets, Ledger, blank, grantedTo, entered, enteredAll, ledgerFrom}
-use Rattle.laws.specs.Told.{Held, heldBy, freeOf, Room, allotted, emptied, Settles, waits, completes, Moves, stays, takes, requests, frees, empties, told}
+use Rattle.laws.specs.Told.{Held, heldBy, freeOf, RoomIn, allotted, emptied, Settles, waits, completes, Moves, stays, takes, requests, frees, empties, told}
 
 -- All lists emptied: how many pages there are, and how long each list is.
 total-none : (n : ℕ) → total (replicate n []) ≡ 0
@@ -31,10 +33,11 @@ pub record Balanced (ls : List (List ℕ)) (l : Ledger) : Type 0 where
   pub even : l .granted ≡ total ls + l .back
 
 -- So it does after a grant, and after pages are given back.
-allot-balanced : (m : ℕ) (ls : List (List ℕ)) (l : Ledger) → Room m ls → Balanced ls l → Balanced (allotted m ls) (grantedTo (firstEmpty ls) m l)
-allot-balanced m ls l r h =
+allot-balanced : (m : ℕ) (a : Held) (l : Ledger) → RoomIn m a → Balanced (a .pages) l → Balanced (allotted m (a .layout) (a .pages)) (grantedTo (firstEmpty (a .pages)) m l)
+allot-balanced m a l r h =
+    let ls = a .pages in
     let k = firstEmpty ls in
-    let got = take m (freeOf ls) in
+    let got = take m (freeOf a) in
     let many : length got ≡ m = simp length-take (omega (arith, r .enough)) in
     record {
       holds = map-set length ls k got ∙ ap₂ (λ (x : List ℕ) (y : ℕ). set x k y) (h .holds) many;
@@ -53,26 +56,26 @@ pub record Follows (a : Held) (l : Ledger) : Type 0 where
   pub asked : 0 < a .waiting → a .waiting ≡ l .asked
 
 -- A ledger that starts anew follows a chip on which no packet has pages and nothing waits.
-blank-follows : (n : ℕ) → Follows (emptied n) (blank n)
-blank-follows n = record { balanced = record { holds = lengths-none n; even = omega (arith, total-none n) }; asked = λ none. absurd (omega (arith, none)) }
+blank-follows : (l : Layout) (n : ℕ) → Follows (emptied l n) (blank n)
+blank-follows l n = record { balanced = record { holds = lengths-none n; even = omega (arith, total-none n) }; asked = λ none. absurd (omega (arith, none)) }
 
 -- So it does after all that a step may do.
 settles-follows : (n : ℕ) {a b : Held} {es : List Entry} (l : Ledger) → Settles a b es → Follows a l → Follows b (enteredAll n es l)
 unfolding enteredAll entered
 settles-follows n l (waits _) h = h
 settles-follows n {a} l (completes some r) h = record {
-  balanced = subst (λ (m : ℕ). Balanced (allotted (a .waiting) (a .pages)) (grantedTo (firstEmpty (a .pages)) m l)) (h .asked some) (allot-balanced (a .waiting) (a .pages) l r (h .balanced));
+  balanced = subst (λ (m : ℕ). Balanced (allotted (a .waiting) (a .layout) (a .pages)) (grantedTo (firstEmpty (a .pages)) m l)) (h .asked some) (allot-balanced (a .waiting) a l r (h .balanced));
   asked = λ none. absurd (omega (arith, none));
 }
 
 empties-follows : (n : ℕ) {a b : Held} (l : Ledger) → length (a .pages) ≡ n → Moves a b (just restarts) → Follows b (enteredAll n (just restarts) l)
 unfolding enteredAll entered
-empties-follows n l z empties = rw z (blank-follows n)
+empties-follows n {a} l z empties = rw z (blank-follows (a .layout) n)
 
 moves-follows : (n : ℕ) {a b : Held} {es : List Entry} (l : Ledger) → length (a .pages) ≡ n → Moves a b es → Follows a l → Follows b (enteredAll n es l)
 unfolding enteredAll entered
 moves-follows n l z stays h = h
-moves-follows n {a} l z (takes m r) h = record { balanced = allot-balanced m (a .pages) l r (h .balanced); asked = h .asked }
+moves-follows n {a} l z (takes m r) h = record { balanced = allot-balanced m a l r (h .balanced); asked = h .asked }
 moves-follows n l z (requests m v s) h =
     settles-follows n _ s (record { balanced = record { holds = h .balanced .holds; even = h .balanced .even }; asked = λ some. refl })
 moves-follows n {a} l z (frees k r s) h = settles-follows n _ s (record { balanced = back-balanced n k (a .pages) l r (h .balanced); asked = h .asked })
@@ -90,7 +93,7 @@ module _ (n : ℕ) (small : n ≤ 128) where
   Even c l = length (free c) + l .granted ≡ n + l .back
 
   free-even : (c : Chip) (l : Ledger) → Fits n c → Balanced (c .pool .pages) l → Even c l
-  free-even c l w b = omega (arith, b .even, free-and-total (length (c .pool .pages)) (c .pool .pages) (rw (w .0 .count) (w .0 .pages)), w .0 .count)
+  free-even c l w b = omega (arith, b .even, free-total (c .pool .layout) n (c .pool .pages) (good-lists (w .0)))
 
   -- Over any list of inputs, from a chip that the ledger follows.
   run-follows : (inputs : List Input) (c : Chip) (l : Ledger) → Fits n c → Follows (heldBy c) l → Follows (heldBy (runOf n inputs c .chip)) (ledgerFrom n inputs c l)
@@ -104,8 +107,8 @@ module _ (n : ℕ) (small : n ≤ 128) where
   run-even inputs c l w h = free-even (runOf n inputs c .chip) _ (run-fits n inputs c w) (run-follows inputs c l w h .balanced)
 
   -- For every history from power-up.
-  pub balances : (inputs : List Input) → Even (runOf n inputs (powered n) .chip) (ledgerFrom n inputs (powered n) (blank n))
-  balances inputs = run-even inputs (powered n) (blank n) (powered-fits n) (blank-follows n)
+  pub balances : (l : Layout) (inputs : List Input) → Even (runOf n inputs (powered l n) .chip) (ledgerFrom n inputs (powered l n) (blank n))
+  balances l inputs = run-even inputs (powered l n) (blank n) (powered-fits l n) (blank-follows l n)
 
   -- After a soft or MMU reset the ledger follows the chip, whatever it said before.
   reset-follows : (i : Input) (c : Chip) (l : Ledger) → Fits n c → Resets n i c → Follows (heldBy (stepOf n i c .chip)) (enteredAll n (entriesOf i c (stepOf n i c)) l)

@@ -7,6 +7,9 @@ use Rattle.rules.specs.Lists.{some?}
 use Rattle.rules.specs.Chip.{Chip, allocated}
 use Rattle.rules.specs.Registers.{Access, access}
 use Rattle.rules.specs.Receive.{Frame, arrive}
+use Rattle.wellformed.specs.Pool.{good-lists}
+use Rattle.wellformed.specs.Fit.{Fits}
+use Rattle.wellformed.specs.Keeps.{keeps-access}
 use Rattle.laws.specs.Reception.{reception, receive, kept, frame-is, frame-writes}
 use Rattle.laws.specs.Loading.{Load, toBank, toPacket, toPointer, toData, load-writes}
 use Rattle.laws.specs.Exchange.{exchange}
@@ -34,9 +37,9 @@ pub loads-after-load : (a : Access) (rest : List Access) (c : Chip) → Loads c 
 loads-after-load a rest c l = loads-from c (access a c .chip) (λ k e. rw (load-writes c c a (l .0) .pool) e) rest (access a c .chip) (l .1)
 
 -- After a frame it is a run still: bank, packet number and pointer stay, and allocated packets stay allocated.
-module _ (f : Frame) where
-  load-after-frame : (c : Chip) (a : Access) → Load c c a → Load (arrive f c .chip) (arrive f c .chip) a
-  load-after-frame c a l = rw (frame-is f c) (go (load-from c d (λ k e. ap some? (kept (c .pool) _ (frame-writes f (c .regs) (c .pool)) k e) ∙ e) c a l))
+module _ (n : ℕ) (f : Frame) where
+  load-after-frame : (c : Chip) → Fits n c → (a : Access) → Load c c a → Load (arrive f c .chip) (arrive f c .chip) a
+  load-after-frame c fits a l = rw (frame-is f c) (go (load-from c d (λ k e. ap some? (kept (c .pool) _ (frame-writes f (c .regs) (c .pool) (good-lists (fits .0))) k e) ∙ e) c a l))
     where
       d : Chip
       d = receive (reception f (c .regs) (c .pool)) c
@@ -47,10 +50,10 @@ module _ (f : Frame) where
       go (toPointer e) = toPointer e
       go (toData e clear k) = toData e clear k
 
-  pub loads-after-frame : (loads : List Access) (c : Chip) → Loads c c loads → Loads (arrive f c .chip) (arrive f c .chip) loads
-  loads-after-frame [] c l = tt
-  loads-after-frame (a ∷ rest) c l =
+  pub loads-after-frame : (loads : List Access) (c : Chip) → Fits n c → Loads c c loads → Loads (arrive f c .chip) (arrive f c .chip) loads
+  loads-after-frame [] c fits l = tt
+  loads-after-frame (a ∷ rest) c fits l =
       let d = arrive f c .chip in
-      let first = load-after-frame c a (l .0) in
-      let after : Loads (access a d .chip) (access a d .chip) rest = rw (exchange a f c (l .0) .chip) (loads-after-frame rest (access a c .chip) (loads-after-load a rest c l)) in
+      let first = load-after-frame c fits a (l .0) in
+      let after : Loads (access a d .chip) (access a d .chip) rest = rw (exchange a f c fits (l .0) .chip) (loads-after-frame rest (access a c .chip) (keeps-access n c fits a) (loads-after-load a rest c l)) in
       (first, loads-from (access a d .chip) d (λ k e. rw (sym (load-writes d d a first .pool)) e) rest (access a d .chip) after)

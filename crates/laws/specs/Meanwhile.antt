@@ -9,7 +9,7 @@ use Rattle.rules.specs.Lists.{member, some?, owned, unless, freeBelow, firstEmp
 use Rattle.rules.specs.Chip.{Chip, powerUp}
 use Rattle.rules.specs.Fields.{setRcr, setPages, inRegisters, inPool}
 use Rattle.rules.specs.Answers.{Reply, done}
-use Rattle.rules.specs.Tests.{above, ascends, allBelow, apart, noneOwned, pagesGood, queueGood, queuesGood, numbersGood, requestGood, formed, fit}
+use Rattle.rules.specs.Tests.{above, ascends, allBelow, apart, noneOwned, pagesGood, laidGood, queueGood, queuesGood, numbersGood, requestGood, formed, fit}
 use Rattle.rules.specs.Packet.{place, getBytes, putBytes}
 use Rattle.rules.specs.Crc.{crcBit, crcBits, crcFrom, crc, hash}
 use Rattle.rules.specs.Receive.{Frame, sameBytes, broadcast, group, inTable, accepted, dataLength, countOf, pagesFor, needed, valueFor, dropped, judge, groupBits, frameStatus, trailer, image, after, arrive}
@@ -45,7 +45,7 @@ pub mixed-merges : Merge (map driver filling) (map frame arriving) mixed
 mixed-merges = left (right (left (left (right (left none)))))
 
 pub listening-whole : Whole listening
-unfolding bit member some? owned above ascends allBelow apart noneOwned pagesGood queueGood queuesGood numbersGood requestGood formed
+unfolding bit member some? owned above ascends allBelow apart noneOwned pagesGood laidGood queueGood queuesGood numbersGood requestGood formed
 listening-whole = (formed-decides 24 listening .sound refl, length-replicate {A = ℕ} 6144 0)
 
 pub filling-loads : Loads listening listening filling
@@ -60,7 +60,7 @@ pub record Seen : Type 0 where
   pub stored : ℕ
 
 unfoldable pub seen : Seen
-unfolding bit setBit clearBit flag lowByte highByte wordOf member some? owned unless freeBelow firstEmpty above ascends allBelow apart noneOwned pagesGood queueGood queuesGood numbersGood requestGood formed fit place getBytes putBytes crcBit crcBits crcFrom crc hash sameBytes broadcast group inTable accepted dataLength countOf pagesFor needed valueFor dropped judge groupBits frameStatus trailer image after arrive address advance next ifPacket against oddFixed past ifOpen writeData registerAt misplaced lanesAt merged bytesOf lowOnly writeRegister access serve stepOf runOf
+unfolding bit setBit clearBit flag lowByte highByte wordOf member some? owned unless freeBelow firstEmpty above ascends allBelow apart noneOwned pagesGood laidGood queueGood queuesGood numbersGood requestGood formed fit place getBytes putBytes crcBit crcBits crcFrom crc hash sameBytes broadcast group inTable accepted dataLength countOf pagesFor needed valueFor dropped judge groupBits frameStatus trailer image after arrive address advance next ifPacket against oddFixed past ifOpen writeData registerAt misplaced lanesAt merged bytesOf lowOnly writeRegister access serve stepOf runOf
 seen =
     let x = run mixed listening in
     let c = x .chip in

@@ -80,10 +80,10 @@ module _ (n : ℕ) where
 
   after-frame : (f : Frame) (loads : List Access) (c : Chip) → Ready c loads → Ready (arrive f c .chip) loads
   unfolding serve
-  after-frame f loads c r = ready-after (frame f) c loads loads r (loads-after-frame f loads c (r .run))
+  after-frame f loads c r = ready-after (frame f) c loads loads r (loads-after-frame n f loads c (r .fits) (r .run))
 
   exchanged : (a : Access) (rest : List Access) (f : Frame) (c : Chip) → Ready c (a ∷ rest) → Exchanged a f c
-  exchanged a rest f c r = exchange a f c (r .run .0)
+  exchanged a rest f c r = exchange a f c (r .fits) (r .run .0)
 
   none-answered : (c : Chip) → runOf n [] c .replies ≡ []
   unfolding runOf

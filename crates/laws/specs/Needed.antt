@@ -9,7 +9,7 @@ use Rattle.rules.specs.Lists.{member, some?, owned, unless, freeBelow, firstEmp
 use Rattle.rules.specs.Chip.{Chip, powerUp}
 use Rattle.rules.specs.Fields.{setRcr, setPointer, setBank, inRegisters}
 use Rattle.rules.specs.Answers.{Reply, done, refusal}
-use Rattle.rules.specs.Tests.{above, ascends, allBelow, apart, noneOwned, pagesGood, queueGood, queuesGood, numbersGood, requestGood, formed, fit}
+use Rattle.rules.specs.Tests.{above, ascends, allBelow, apart, noneOwned, pagesGood, laidGood, queueGood, queuesGood, numbersGood, requestGood, formed, fit}
 use Rattle.rules.specs.Packet.{place, getBytes, putBytes}
 use Rattle.rules.specs.Crc.{crcBit, crcBits, crcFrom, crc, hash}
 use Rattle.rules.specs.Receive.{Frame, sameBytes, broadcast, group, inTable, accepted, dataLength, countOf, pagesFor, needed, valueFor, dropped, judge, groupBits, frameStatus, trailer, image, after, arrive}
@@ -27,7 +27,7 @@ arriving = record { bytes = replicate 64 0xff; badCrc = false; alignment = false
 
 -- the answers of a run on that chip
 unfoldable pub answers : ℕ → List Input → List Reply
-unfolding bit setBit clearBit flag lowByte highByte wordOf member some? owned unless freeBelow firstEmpty above ascends allBelow apart noneOwned pagesGood queueGood queuesGood numbersGood requestGood formed fit place getBytes putBytes crcBit crcBits crcFrom crc hash sameBytes broadcast group inTable accepted dataLength countOf pagesFor needed valueFor dropped judge groupBits frameStatus trailer image after arrive address advance next ifPacket against oddFixed past ifOpen valueOf readData registerAt misplaced lanesAt taken width headOf readRegister access serve stepOf runOf
+unfolding bit setBit clearBit flag lowByte highByte wordOf member some? owned unless freeBelow firstEmpty above ascends allBelow apart noneOwned pagesGood laidGood queueGood queuesGood numbersGood requestGood formed fit place getBytes putBytes crcBit crcBits crcFrom crc hash sameBytes broadcast group inTable accepted dataLength countOf pagesFor needed valueFor dropped judge groupBits frameStatus trailer image after arrive address advance next ifPacket against oddFixed past ifOpen valueOf readData registerAt misplaced lanesAt taken width headOf readRegister access serve stepOf runOf
 answers p inputs = run inputs (listening p) .replies
 
 -- x answers the access where it comes before the frame, y where it comes after; the frame is stored and answered by 0 both times

@@ -93,7 +93,7 @@ module _ (pages memory : List ℕ) where
   abbrev last : ℕ
   last = byteAt pages memory (countAt pages memory - 1)
 
-  control-is : controlByte (byteCount pages memory) pages memory ≡ last
+  pub control-is : controlByte (byteCount pages memory) pages memory ≡ last
   unfolding controlByte getBytes place
   control-is = ap (λ (x : ℕ). byteAt pages memory (x - 1)) (count-is pages memory)
 

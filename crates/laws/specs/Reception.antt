@@ -1,4 +1,4 @@
--- What an arriving frame reads and what it writes, for any chip.
+-- What an arriving frame reads, for any chip, and what it writes, where the page lists are good.
 use mathlib.Core.Path.{_≡_, refl, ap, sym, _∙_}
 use mathlib.Core.Bool.{Bool, true, false, cond, not, _||_, true≢false}
 use mathlib.Core.List.{List, [], _∷_, _++_}
@@ -15,10 +15,11 @@ use Rattle.rules.specs.Fields.{setRcr, setOverrun, setControl, inReceiving}
 use Rattle.rules.specs.Answers.{Reply, Effect, doneWith, refusal, refuse}
 use Rattle.rules.specs.Packet.{putBytes}
 use Rattle.rules.specs.Receive.{Frame, Arrival, stored, disabled, notAccepted, tooLong, bad, noRoom, valueFor, accepted, dropped, dataLength, countOf, pagesFor, needed, destination, judge, trailer, image, stow, abort, after, arrive}
-use Rattle.lists.specs.Facts.{member-take, member-free}
 use Rattle.laws.specs.Apart.{Within}
 use Rattle.wellformed.specs.Cases.{pick-by}
 use Rattle.wellformed.specs.Pages.{first-empty}
+use Rattle.wellformed.specs.Layouts.{GoodLists, taken-apart}
+use Rattle.wellformed.specs.Frames.{needs-seven}
 
 -- what a frame does: it writes RCR, a latch, the pool, and bytes of memory
 pub record Reception : Type 0 where
@@ -126,7 +127,7 @@ unfolding some?
 kept q x w k a = w .others k (λ e. true≢false (sym a ∙ ap (λ (j : ℕ). some? (getD (q .pages) j [])) e ∙ ap some? (first-empty (q .pages))))
 
 -- The pages for a count hold the image that has this count.
-image-fits : (f : Frame) (n : ℕ) → length (image f n) ≤ 256 * pagesFor (countOf n)
+pub image-fits : (f : Frame) (n : ℕ) → length (image f n) ≤ 256 * pagesFor (countOf n)
 unfolding image trailer countOf pagesFor
 image-fits f n = go (bit 0 n)
   where
@@ -134,7 +135,7 @@ image-fits f n = go (bit 0 n)
     go true = simp (length-append, length-take) (omega arith)
     go false = simp (length-append, length-take) (omega arith)
 
-module _ (f : Frame) (r : Registers) (q : Pool) where
+module _ (f : Frame) (r : Registers) (q : Pool) {n : ℕ} (lists : GoodLists (q .layout) n (q .pages)) where
   abbrev len : ℕ
   len = length (f .bytes)
 
@@ -145,13 +146,13 @@ module _ (f : Frame) (r : Registers) (q : Pool) where
   unfolding member
   nothing-taken x y b = record { others = λ k h. refl; tx = refl; completion = refl; fresh = λ p m. absurd (true≢false (sym m)); fits = omega arith }
 
-  some-taken : needed r len ≤ freePages → Spares q (judged stored f r q)
+  some-taken : len ≤ 1532 → needed r len ≤ freePages → Spares q (judged stored f r q)
   unfolding judged needed
-  some-taken h = record {
+  some-taken short h = record {
     others = λ k h. getD-set-other (q .pages) (firstEmpty (q .pages)) k _ [] h;
     tx = refl;
     completion = refl;
-    fresh = λ p m. member-free (length (q .pages)) (q .pages) p (member-take p (needed r len) (free (bare r q)) m) .1;
+    fresh = λ p m. taken-apart (q .layout) n (q .pages) lists (needed r len) (omega (arith, needs-seven r len short)) p m;
     fits = rw length-take (omega (arith, h, image-fits f (dataLength r len)));
   }
 
@@ -169,6 +170,6 @@ module _ (f : Frame) (r : Registers) (q : Pool) where
           pick-by P (not (bit 8 (r .receiving .rcr))) (λ e. nothing-taken _ _ _)
           (λ e. pick-by P (not (accepted r (destination f))) (λ e. nothing-taken _ _ _)
           (λ e. pick-by P (ltb 1532 len) (λ e. nothing-taken _ _ _)
-          (λ e. pick-by P (dropped r f) (λ e. nothing-taken _ _ _)
+          (λ short. pick-by P (dropped r f) (λ e. nothing-taken _ _ _)
           (λ e. pick-by P (ltb freePages (needed r len + r .receiving .reserved)) (λ e. nothing-taken _ _ _)
-          (λ e. some-taken (omega (arith, ltb-false freePages (needed r len + r .receiving .reserved) e)))))))
+          (λ e. some-taken (ltb-false 1532 len short) (omega (arith, ltb-false freePages (needed r len + r .receiving .reserved) e)))))))

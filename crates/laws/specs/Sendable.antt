@@ -42,7 +42,7 @@ pub record Sendable (s : Send) (c : Chip) (out : List ℕ) : Type 0 where
   pub within : headCount c ≤ 256 * length (headPages c)
 
 -- The limits of an event, as what they ask.
-within-decides : (s : Send) → Decides (inLimits s) (Within s)
+pub within-decides : (s : Send) → Decides (inLimits s) (Within s)
 unfolding inLimits
 within-decides s =
     let d = le-decides (s .outcome) 5 and by-one (eq-decides (s .outcome) 1) (eq-decides (s .collisions) 16) (le-decides (s .collisions) 15) and le-decides (s .deferral) 2 in

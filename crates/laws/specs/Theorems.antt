@@ -1,4 +1,4 @@
--- Demand 2 at the chip of document 01, with its 24 pages: what the modules before it prove for any size, and that a driver reads the free count.
+-- Demand 2 at a chip of 24 packets, as that of document 01 is: what the modules before it prove for any size, and that a driver reads the free count.
 use mathlib.Core.Path.{_≡_, refl, ap, ap₂, sym, subst, _∙_}
 use mathlib.Core.Logic.{_⊎_}
 use mathlib.Core.List.{List, [], _∷_, _++_}
@@ -6,26 +6,27 @@ use Prim.Native.Nat.{ℕ, _+_, _*_, _≤_, _<_, _/_, _%_}
 use native.Mathlib.Omega.{arith}
 use lib.ListN.{length}
 use Rattle.rules.specs.Bits.{bit, highByte, wordOf}
-use Rattle.rules.specs.Chip.{Chip, size, free, powerUp}
+use Rattle.rules.specs.Chip.{paged, Chip, size, free, powerUp}
 use Rattle.rules.specs.Fields.{setBank, inRegisters}
 use Rattle.rules.specs.Answers.{doneWith, did, leaving}
 use Rattle.rules.specs.Registers.{byte, word, read, write, registerAt, misplaced, lanesAt, taken, lowOnly, readRegister, writeRegister, access}
 use Rattle.rules.specs.Step.{Input, driver, serve, step, runOf, run, history}
 use Rattle.wellformed.specs.Fit.{Fits, step-fit}
-use Rattle.wellformed.specs.Count.{free-and-total}
+use Rattle.wellformed.specs.Layouts.{free-total}
+use Rattle.wellformed.specs.Pool.{good-lists}
 use Rattle.wellformed.specs.Keeps.{keeps, powered-fits}
 use Rattle.laws.specs.Accounted.{IsFree, InOne, accounted-after}
 use Rattle.laws.specs.Ledger.{Ledger, Resets, ledgerFrom}
 use Rattle.laws.specs.Reading.{reads, ReadsFree, Balances, BalancesAlways}
 use Rattle.laws.specs.Balance.{run-fits, balances, balances-since, run-joined, ledger-joined}
 
--- well formed, with its 6,144 bytes: what refusal 16 asks of the chip of document 01
+-- well formed, with its 6,144 bytes (of strips 49,152): what refusal 16 asks
 abbrev pub Whole : Chip → Type 0
 Whole c = Fits 24 c
 
 -- A chip is so at power-up, after each step from one that is, and so throughout every run and every history.
 pub power-up-whole : Whole powerUp
-power-up-whole = powered-fits 24
+power-up-whole = powered-fits paged 24
 
 pub step-whole : (i : Input) (c : Chip) → Whole c → Whole (step i c .chip)
 step-whole i c w = keeps 24 c w i
@@ -36,13 +37,13 @@ run-whole = run-fits 24
 pub history-whole : (inputs : List Input) → Whole (history inputs .chip)
 history-whole inputs = run-whole inputs powerUp power-up-whole
 
--- After each step from a well-formed chip every page is free or in exactly one packet, at one place of its list.
-pub pages-accounted : (i : Input) (c : Chip) → Whole c → (p : ℕ) → p < 24 → IsFree (step i c .chip) p ⊎ InOne (step i c .chip) p
-pages-accounted i c w p h = accounted-after 24 i c w p (omega (arith, h, step-whole i c w .0 .count))
+-- After each step from a well-formed chip of pages every page is free or in exactly one packet, at one place of its list.
+pub pages-accounted : (i : Input) (c : Chip) → Whole c → c .pool .layout ≡ paged → (p : ℕ) → p < 24 → IsFree (step i c .chip) p ⊎ InOne (step i c .chip) p
+pages-accounted i c w e p h = accounted-after 24 i c w e p (omega (arith, h, step-whole i c w .0 .count))
 
 module _ (c : Chip) (w : Whole c) where
   few : length (free c) ≤ 24
-  few = omega (arith, free-and-total (size c) (c .pool .pages) (rw (w .0 .count) (w .0 .pages)), w .0 .count)
+  few = omega (arith, free-total (c .pool .layout) 24 (c .pool .pages) (good-lists (w .0)))
 
   read-byte : c .regs .numbers .bank ≡ 0 → step (driver (read byte 9)) c ≡ leaving [] (doneWith (length (free c)) c)
   unfolding serve access registerAt misplaced lanesAt bit readRegister taken wordOf highByte
@@ -78,7 +79,7 @@ free-read c w =
 pub since-power-up : BalancesAlways
 since-power-up inputs =
     let c = history inputs .chip in
-    record { count = length (free c); reads = free-read c (history-whole inputs); even = balances 24 (omega arith) inputs }
+    record { count = length (free c); reads = free-read c (history-whole inputs); even = balances 24 (omega arith) paged inputs }
 
 -- "or the last soft or MMU reset": for every run, from any well-formed chip and whatever the ledger said at first, once a step of it was such a reset
 pub since-reset : (c : Chip) → Whole c → (l : Ledger) (before : List Input) (i : Input) (after : List Input) → Resets 24 i (run before c .chip)

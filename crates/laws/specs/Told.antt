@@ -9,11 +9,10 @@ use borrow.Author.Tests.{lt-ltb, ne-eqb}
 use lib.Dec.{eqb·suc-zero, eqb, leb, ltb}
 use lib.ListN.{length, set, take, replicate, length-set}
 use Rattle.rules.specs.Bits.{bit, lowByte}
-use Rattle.rules.specs.Lists.{freeBelow, firstEmpty}
-use Rattle.rules.specs.Chip.{Registers, Chip, free, allocated}
+use Rattle.rules.specs.Lists.{firstEmpty}
+use Rattle.rules.specs.Chip.{Registers, Layout, Chip, freeFor, free, allocated}
 use Rattle.rules.specs.Fields.{setRx, inRegisters, inPool}
 use Rattle.rules.specs.Answers.{Reply, Effect, Turn, refuse, refused, did, doneWith}
-use Rattle.rules.specs.WellFormed.{GoodPages}
 use Rattle.rules.specs.Mmu.{Command, nothing, allocate, reset, removeRx, removeAndRelease, release, enqueue, resetTx, unknown, decode, perform, grant, pend, due, settle, freed, giveBack}
 use Rattle.rules.specs.Data.{readData, writeData}
 use Rattle.rules.specs.Registers.{Lanes, low, high, both, Register, TCR, EPHSR, RCR, ECR, MIR, RESERVED, STATION, CONTROL, COMMAND, PACKET, HEADS, POINTER, DATA, INTERRUPT, TABLE, BANK, UNUSED, ABSENT, bytesOf, merged, newRcr, writeRcr, writeTcr, writeInterrupt, readRegister, writeRegister, headOf, registerAt, misplaced, lanesAt, Access, read, write, access}
@@ -21,67 +20,70 @@ use Rattle.rules.specs.Receive.{Frame, Arrival, stored, disabled, notAccepted, 
 use Rattle.rules.specs.Send.{Send, good, autoRelease, sendHead, finish}
 use Rattle.rules.specs.Step.{Input, driver, frame, sent, serve, stepOf}
 use Rattle.lists.specs.Facts.{member-first}
-use Rattle.wellformed.specs.Pages.{back-good}
-use Rattle.wellformed.specs.Count.{unallocated}
+use Rattle.wellformed.specs.Layouts.{GoodLists, unallocated, back-lists}
 use Rattle.wellformed.specs.Cases.{pick, pick-by, by-settle, by-head, by-idle, by-packet, by-tests, by-lanes, by-read, by-send, by-step}
-use Rattle.wellformed.specs.Pool.{has-small}
+use Rattle.wellformed.specs.Pool.{has-small, good-lists}
 use Rattle.wellformed.specs.Fit.{Fits}
 use Rattle.wellformed.specs.Settle.{due-decides, not-due}
 use Rattle.wellformed.specs.Keeps.{Valid, decode-valid}
 use Rattle.wellformed.specs.Frames.{storable, needs-one}
 use Rattle.laws.specs.Ledger.{Entry, asks, answers, grants, returns, restarts, just, lastOf, resultEntries, answered, commandEntries, writeEntries, inputEntries, entriesOf}
 
--- what the ledger follows of a chip: the page lists, the allocation result, and for how many pages an allocation waits
+-- what the ledger follows of a chip: its layout and page lists, the allocation result, and for how many pages an allocation waits
 pub record Held : Type 0 where
+  pub layout : Layout
   pub pages : List (List ℕ)
   pub result : ℕ
   pub waiting : ℕ
 
 abbrev pub heldBy : Chip → Held
-heldBy c = record { pages = c .pool .pages; result = c .regs .numbers .result; waiting = c .regs .numbers .waiting }
+heldBy c = record { layout = c .pool .layout; pages = c .pool .pages; result = c .regs .numbers .result; waiting = c .regs .numbers .waiting }
 
 -- the free pages
-abbrev pub freeOf : List (List ℕ) → List ℕ
-freeOf ls = freeBelow (length ls) ls
+abbrev pub freeOf : Held → List ℕ
+freeOf a = freeFor (a .layout) (a .pages)
 
 -- there are m of them, and a number to give them to
-pub record Room (m : ℕ) (ls : List (List ℕ)) : Type 0 where
-  pub enough : m ≤ length (freeOf ls)
+pub record Room (m : ℕ) (l : Layout) (ls : List (List ℕ)) : Type 0 where
+  pub enough : m ≤ length (freeFor l ls)
   pub number : firstEmpty ls < length ls
 
--- the lowest unallocated number has the m lowest free pages
-abbrev pub allotted : ℕ → List (List ℕ) → List (List ℕ)
-allotted m ls = set ls (firstEmpty ls) (take m (freeOf ls))
+abbrev pub RoomIn : ℕ → Held → Type 0
+RoomIn m a = Room m (a .layout) (a .pages)
+
+-- the lowest unallocated number has the first m of the free pages
+abbrev pub allotted : ℕ → Layout → List (List ℕ) → List (List ℕ)
+allotted m l ls = set ls (firstEmpty ls) (take m (freeFor l ls))
 
 -- what is held once an allocation waits for m pages, whatever waited before; once it is granted; once packet k has no pages; once there was a soft or MMU reset
 abbrev pub asking : ℕ → Held → Held
-asking m a = record { pages = a .pages; result = 0x80; waiting = m }
+asking m a = record { layout = a .layout; pages = a .pages; result = 0x80; waiting = m }
 
 abbrev pub completed : Held → Held
-completed a = record { pages = allotted (a .waiting) (a .pages); result = firstEmpty (a .pages); waiting = 0 }
+completed a = record { layout = a .layout; pages = allotted (a .waiting) (a .layout) (a .pages); result = firstEmpty (a .pages); waiting = 0 }
 
 abbrev pub without : ℕ → Held → Held
-without k a = record { pages = set (a .pages) k []; result = a .result; waiting = a .waiting }
+without k a = record { layout = a .layout; pages = set (a .pages) k []; result = a .result; waiting = a .waiting }
 
-abbrev pub emptied : ℕ → Held
-emptied n = record { pages = replicate n []; result = 0x80; waiting = 0 }
+abbrev pub emptied : Layout → ℕ → Held
+emptied l n = record { layout = l; pages = replicate n []; result = 0x80; waiting = 0 }
 
 -- what an allocation that may wait comes to: none waits, or for more pages than are free, and all stays; or it is granted
 pub data Settles (a : Held) : Held → List Entry → Type 0 where
-  waits : (0 < a .waiting → length (freeOf (a .pages)) < a .waiting) → Settles a a []
-  completes : 0 < a .waiting → Room (a .waiting) (a .pages) → Settles a (completed a) (just (answers (firstEmpty (a .pages))))
+  waits : (0 < a .waiting → length (freeOf a) < a .waiting) → Settles a a []
+  completes : 0 < a .waiting → RoomIn (a .waiting) a → Settles a (completed a) (just (answers (firstEmpty (a .pages))))
 
 -- all that a step may do to what is held, with its entries
 pub data Moves (a : Held) : Held → List Entry → Type 0 where
   stays : Moves a a []
   -- a frame is stored
-  takes : (m : ℕ) → Room m (a .pages) → Moves a (record { pages = allotted m (a .pages); result = a .result; waiting = a .waiting }) (just (grants (firstEmpty (a .pages)) m))
+  takes : (m : ℕ) → RoomIn m a → Moves a (record { layout = a .layout; pages = allotted m (a .layout) (a .pages); result = a .result; waiting = a .waiting }) (just (grants (firstEmpty (a .pages)) m))
   -- an allocate command; its request is settled
   requests : {b : Held} {es : List Entry} (m : ℕ) → (1 ≤ m) × (m ≤ 8) → Settles (asking m a) b es → Moves a b (asks m ∷ es)
   -- a packet gives its pages back; what waits is settled
   frees : {b : Held} {es : List Entry} (k : ℕ) → k < length (a .pages) → Settles (without k a) b es → Moves a b (returns k ∷ es)
   -- a soft or MMU reset
-  empties : Moves a (emptied (length (a .pages))) (just restarts)
+  empties : Moves a (emptied (a .layout) (length (a .pages))) (just restarts)
 
 -- A last entry is the one that joined.
 last-joined : (l : List ℕ) (k : ℕ) → lastOf (l ++ (k ∷ [])) ≡ k
@@ -116,21 +118,20 @@ answered-still c d e = rw e (go (eqb (c .regs .numbers .result) 0x80))
 -- good page lists, for at most 128 numbers; and the result reads 80h while an allocation waits
 record Open (n : ℕ) (a : Held) : Type 0 where
   small : n ≤ 128
-  count : length (a .pages) ≡ n
-  good : GoodPages n (a .pages)
+  good : GoodLists (a .layout) n (a .pages)
   unanswered : 0 < a .waiting → a .result ≡ 0x80
 
 -- There is a number where there is a page.
-room : {n : ℕ} (m : ℕ) (ls : List (List ℕ)) → length ls ≡ n → GoodPages n ls → 0 < m → m ≤ length (freeOf ls) → Room m ls
-room m ls e g some h = record { enough = h; number = unallocated ls (rw e g) (omega (arith, some, h)) }
+room : {n : ℕ} (m : ℕ) (l : Layout) (ls : List (List ℕ)) → GoodLists l n ls → 0 < m → m ≤ length (freeFor l ls) → Room m l ls
+room {n} m l ls g some h = record { enough = h; number = omega (arith, unallocated l n ls g (omega (arith, some, h)), g .count) }
 
 settles : {n : ℕ} (c : Chip) → Open n (heldBy c) → Settles (heldBy c) (heldBy (settle c)) (answered c (settle c))
 settles c o =
     by-settle (λ (d : Chip). Settles (heldBy c) (heldBy d) (answered c d)) c
     (λ e. let m = c .regs .numbers .waiting in
     let p = due-decides c .sound e in
-    let r = room m (c .pool .pages) (o .count) (o .good) (p .0) (p .1) in
-    rw (answered-number c (grant m c) (o .unanswered (p .0)) (omega (arith, r .number, o .count, o .small))) (completes (p .0) r))
+    let r = room m (c .pool .layout) (c .pool .pages) (o .good) (p .0) (p .1) in
+    rw (answered-number c (grant m c) (o .unanswered (p .0)) (omega (arith, r .number, o .good .count, o .small))) (completes (p .0) r))
     (λ e. rw (answered-still c c refl) (waits (not-due c e)))
 
 -- An allocate command puts its request in the place of what waited, and settles it.
@@ -166,13 +167,12 @@ module _ (n : ℕ) (small : n ≤ 128) (c : Chip) (w : Fits n c) where
   freed-open : (k : ℕ) → allocated k c ≡ true → Open n (heldBy (freed k c))
   freed-open k a = record {
     small = small;
-    count = length-set (c .pool .pages) k [] ∙ w .0 .count;
-    good = back-good n (c .pool .pages) k (in-range k a) (w .0 .pages);
+    good = back-lists n (c .pool .pages) k (omega (arith, in-range k a, w .0 .count)) (c .pool .layout) (good-lists (w .0));
     unanswered = λ h. ⊎-elim (λ e. absurd (omega (arith, h, e))) (λ p. p .unanswered) (w .0 .request);
   }
 
   asked-open : (m : ℕ) → Open n (heldBy (pend m c))
-  asked-open m = record { small = small; count = w .0 .count; good = w .0 .pages; unanswered = λ h. refl }
+  asked-open m = record { small = small; good = good-lists (w .0); unanswered = λ h. refl }
 
   told-command : (k : Command) → Valid k → ToldBy (λ v d. commandEntries k c d) (perform k c)
   unfolding perform commandEntries answered
@@ -249,7 +249,7 @@ module _ (n : ℕ) (small : n ≤ 128) (c : Chip) (w : Fits n c) where
   told-after stored f e =
       let s = storable (c .regs) (length (free c)) f e in
       let m = needed (c .regs) (length (f .bytes)) in
-      rw (last-joined (c .pool .rx) (firstEmpty (c .pool .pages))) (takes m (room m (c .pool .pages) (w .0 .count) (w .0 .pages) (omega (arith, needs-one (c .regs) (length (f .bytes)))) (omega (arith, s .room))))
+      rw (last-joined (c .pool .rx) (firstEmpty (c .pool .pages))) (takes m (room m (c .pool .layout) (c .pool .pages) (good-lists (w .0)) (omega (arith, needs-one (c .regs) (length (f .bytes)))) (omega (arith, s .room))))
   told-after disabled f e = stays
   told-after notAccepted f e = stays
   told-after tooLong f e = stays

@@ -10,9 +10,9 @@ use lib.ListN.{length, getD, set, take, length-set, length-take}
 use lib.Seq.{getD-set-same, getD-set-other}
 use Rattle.rules.specs.Bits.{lowByte}
 use Rattle.rules.specs.Lists.{member}
-use Rattle.rules.specs.Chip.{Chip, pagesAt, free, powerUp}
+use Rattle.rules.specs.Chip.{Layout, paged, Chip, pageNumbers, pagesAt, freeFor, free, powerUp}
 use Rattle.rules.specs.Answers.{Effect, Turn}
-use Rattle.rules.specs.WellFormed.{GoodPages, Waits}
+use Rattle.rules.specs.WellFormed.{Waits}
 use Rattle.rules.specs.Mmu.{decode, lowestNumber, freed}
 use Rattle.rules.specs.Registers.{Width, COMMAND, write, registerAt, headOf}
 use Rattle.rules.specs.Receive.{Frame, Arrival, stored, disabled, notAccepted, tooLong, bad, noRoom, after, verdict, arrive}
@@ -21,12 +21,13 @@ use Rattle.rules.specs.Step.{Input, driver, frame, sent, serve, stepOf, run, hi
 use Rattle.lists.specs.Facts.{if-not, nobody}
 use Rattle.lists.specs.Owned.{owned-none}
 use Rattle.wellformed.specs.Cases.{pick, by-step}
-use Rattle.wellformed.specs.Pages.{at-set, back-good}
-use Rattle.wellformed.specs.Count.{free-set}
+use Rattle.wellformed.specs.Pages.{at-set}
+use Rattle.wellformed.specs.Layouts.{back-lists, free-set}
+use Rattle.wellformed.specs.Pool.{good-lists}
 use Rattle.wellformed.specs.Fit.{Fits}
 use Rattle.laws.specs.Accounted.{IsFree, free-listed}
 use Rattle.laws.specs.Ledger.{Entry, asks, answers, returns, restarts, just, answered, commandEntries, writeEntries, inputEntries, entriesOf, Resets}
-use Rattle.laws.specs.Told.{Held, heldBy, freeOf, Room, completed, without, emptied, Settles, waits, completes, Moves, stays, takes, requests, frees, empties, told}
+use Rattle.laws.specs.Told.{Held, heldBy, freeOf, RoomIn, completed, without, emptied, Settles, waits, completes, Moves, stays, takes, requests, frees, empties, told}
 use Rattle.laws.specs.Theorems.{Whole, power-up-whole, run-whole}
 
 -- while an allocation waits on the chip, it is "for 1 to 8 pages, more than are free, with the result at 80h"
@@ -34,7 +35,7 @@ abbrev pub NotInVain : Chip → Type 0
 NotInVain c = 0 < c .regs .numbers .waiting → Waits (length (free c)) (c .regs .numbers .waiting) (c .regs .numbers .result)
 
 pub not-in-vain : (n : ℕ) (c : Chip) → Fits n c → NotInVain c
-not-in-vain n c w some = ⊎-elim (λ e. absurd (omega (arith, some, e))) (λ p. rw (w .0 .count) p) (w .0 .request)
+not-in-vain n c w some = ⊎-elim (λ e. absurd (omega (arith, some, e))) (λ p. p) (w .0 .request)
 
 -- It is so after every run from a well-formed chip; so in no history does a chip ever wait although enough pages are free.
 pub run-not-in-vain : (inputs : List Input) (c : Chip) → Whole c → NotInVain (run inputs c .chip)
@@ -109,7 +110,7 @@ fares empties = dropped refl
 still : {a b : Held} → Moves a b [] → b ≡ a
 still stays = refl
 
-restarted : {a b : Held} → Moves a b (just restarts) → b ≡ emptied (length (a .pages))
+restarted : {a b : Held} → Moves a b (just restarts) → b ≡ emptied (a .layout) (length (a .pages))
 restarted empties = refl
 
 requested : (c : Chip) {b : Held} {m : ℕ} {es : List Entry} → Moves (heldBy c) b (asks m ∷ es) → Replaced c m b
@@ -119,31 +120,34 @@ requested c (requests m v (completes s r)) = inr (r .enough, refl, refl)
 released : {a b : Held} {k : ℕ} {es : List Entry} → Moves a b (returns k ∷ es) → (k < length (a .pages)) × Settles (without k a) b es
 released (frees k r s) = (r, s)
 
-enough-settles : {a b : Held} {es : List Entry} → Settles a b es → 0 < a .waiting → a .waiting ≤ length (freeOf (a .pages)) → Room (a .waiting) (a .pages) × (b ≡ completed a)
+enough-settles : {a b : Held} {es : List Entry} → Settles a b es → 0 < a .waiting → a .waiting ≤ length (freeOf a) → RoomIn (a .waiting) a × (b ≡ completed a)
 enough-settles (waits f) some h = absurd (omega (arith, f some, h))
 enough-settles (completes _ r) some h = (r, refl)
 
-short-settles : {a b : Held} {es : List Entry} → Settles a b es → length (freeOf (a .pages)) < a .waiting → b ≡ a
+short-settles : {a b : Held} {es : List Entry} → Settles a b es → length (freeOf a) < a .waiting → b ≡ a
 short-settles (waits _) h = refl
 short-settles (completes _ r) h = absurd (omega (arith, r .enough, h))
 
 -- Packet k without its pages: as many are free then as were free and as it had, and its own are among them.
 module _ (n : ℕ) (c : Chip) (w : Fits n c) (k : ℕ) (in-range : k < length (c .pool .pages)) where
-  sound : GoodPages (length (c .pool .pages)) (c .pool .pages)
-  sound = rw (w .0 .count) (w .0 .pages)
+  small : k < n
+  small = omega (arith, in-range, w .0 .count)
 
   pub free-then : length (free (freed k c)) ≡ length (free c) + length (pagesAt c k)
   free-then =
       let ls = c .pool .pages in
-      rw (length-set ls k []) (omega (arith, free-set (length ls) ls k [] in-range sound (back-good (length ls) ls k in-range sound)))
+      omega (arith, free-set (c .pool .layout) n ls k [] small (good-lists (w .0)) (back-lists n ls k small (c .pool .layout) (good-lists (w .0))))
 
-  pub given-back-free : (p : ℕ) → member p (pagesAt c k) ≡ true → IsFree (freed k c) p
-  given-back-free p m =
+  -- of a chip of pages
+  pub given-back-free : c .pool .layout ≡ paged → (p : ℕ) → member p (pagesAt c k) ≡ true → IsFree (freed k c) p
+  given-back-free e p m =
       let ls = c .pool .pages in
       let none : (j : ℕ) → member p (getD (set ls k []) j []) ≡ true → ⊥ =
-      λ j x. ⊎-elim (λ u. nobody p (sym (ap (member p) (u .1)) ∙ x)) (λ u. u .0 (sound .once j k p (sym (ap (member p) (u .1)) ∙ x) m)) (at-set ls k [] in-range j) in
+      λ j x. ⊎-elim (λ u. nobody p (sym (ap (member p) (u .1)) ∙ x)) (λ u. u .0 (w .0 .pages .once j k p (sym (ap (member p) (u .1)) ∙ x) m)) (at-set ls k [] in-range j) in
       record {
-        listed = free-listed (length (set ls k [])) (set ls k []) p (omega (arith, sound .within k p m, length-set ls k [])) (owned-none p (set ls k []) none);
+        listed =
+            subst (λ (l : Layout). member p (freeFor l (set ls k [])) ≡ true) (sym e)
+            (free-listed (length (set ls k [])) (set ls k []) p (omega (arith, subst (λ (l : Layout). p < pageNumbers l n) e (w .0 .pages .within k p m), length-set ls k [], w .0 .count)) (owned-none p (set ls k []) none));
         unowned = λ j. if-not (member p (getD (set ls k []) j [])) (none j);
       }
 
@@ -190,8 +194,8 @@ module _ (n : ℕ) (small : n ≤ 128) (i : Input) (c : Chip) (w : Fits n c) whe
   replaces-it m rest e = requested c (moved e)
 
   -- "40h and a soft reset drop it" (`Restarts`: each such write is so entered)
-  pub resets-drop-it : Resets n i c → heldBy (stepOf n i c .chip) ≡ emptied n
-  resets-drop-it r = restarted (moved r) ∙ ap emptied (w .0 .count)
+  pub resets-drop-it : Resets n i c → heldBy (stepOf n i c .chip) ≡ emptied (c .pool .layout) n
+  resets-drop-it r = restarted (moved r) ∙ ap (emptied (c .pool .layout)) (w .0 .count)
 
   -- What enters nothing leaves page lists, result and request.
   pub no-entry-leaves-it : entriesOf i c (stepOf n i c) ≡ [] → heldBy (stepOf n i c .chip) ≡ heldBy c

@@ -6,8 +6,7 @@ use Prim.Native.Nat.{ℕ, _/_, _%_}
 use native.Mathlib.Omega.{arith}
 use lib.ListN.{length, length-map}
 use Rattle.rules.specs.Bits.{bit, wordOf}
-use Rattle.rules.specs.Lists.{freeBelow}
-use Rattle.rules.specs.Chip.{Chip, Pool}
+use Rattle.rules.specs.Chip.{paged, Chip, Pool, freeFor}
 use Rattle.rules.specs.WellFormed.{WellFormed}
 use Rattle.sets.specs.Views as sets
 use Rattle.sets.specs.Members.{setOf}
@@ -113,6 +112,7 @@ module _ (x : Listed) (mem : List ℕ) (t : ListedTyped x) (o : ListedInOrder x 
   sets-chip m = λ i. record {
     regs = registers-back (registersOf r) t pool i;
     pool = record {
+      layout = paged;
       pages = lists-sets (pool .pages) (o .ready .well .pages) i;
       rx = all-rx (r .rx) (r .tx) (r .done) (o .ready .queues) i;
       tx = all-tx (r .rx) (r .tx) (r .done) (o .ready .queues) i;
@@ -129,7 +129,7 @@ module _ (x : Listed) (mem : List ℕ) (t : ListedTyped x) (o : ListedInOrder x 
         queues = all-queues (r .rx) (r .tx) (r .done) (o .ready .queues) (registersOf r) (pool .pages);
         sets = record {
           many = length-map (pool .pages) setOf ∙ o .ready .well .count;
-          free = ap (λ (ls : List (List ℕ)). wordOf 24 (length (freeBelow 24 ls))) (sym (lists-sets (pool .pages) (o .ready .well .pages)));
+          free = ap (λ (ls : List (List ℕ)). wordOf 24 (length (freeFor paged ls))) (sym (lists-sets (pool .pages) (o .ready .well .pages)));
           small = lists-small (pool .pages) (o .ready .well .pages);
         };
       };
@@ -153,6 +153,7 @@ module _ (y : Lent) (mem : List ℕ) (o : LentInOrder y mem) where
   lists-chip m = λ i. record {
     regs = lent.registersIn w;
     pool = record {
+      layout = paged;
       pages = lists-rows (map sets.pagesOf (y .pages .sets)) (o .ready .well .pages) i;
       rx = entries-from (word w 6) (slots 0 q) i;
       tx = entries-from (word w 8) (slots 1 q) i;

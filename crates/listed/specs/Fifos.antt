@@ -5,7 +5,7 @@ use Prim.Native.Nat.{ℕ, zero, suc, _+_, _-_, _/_, _%_}
 use native.Mathlib.Omega.{arith}
 use lib.ListN.{length, take, drop, replicate, length-append, length-replicate}
 use lib.Seq.{take-at, drop-at, take-all, drop-drop}
-use Rattle.rules.specs.Chip.{Registers}
+use Rattle.rules.specs.Chip.{paged, Registers}
 use Rattle.sets.specs.Members.{setOf}
 use Rattle.queues.specs.Slots.{Slots}
 use Rattle.queues.specs.Parts.{slots, slots-entries, slots-as}
@@ -103,7 +103,7 @@ module _ (a b c : Queue) (s : SoundQueues a b c) where
   all-completion = ap (take (length (entries c))) third ∙ slots-entries (bytesOf c) (length (entries c)) (entries c) (bytes-slots c (s .done))
 
   -- as the figures count them, beside any registers and page lists
-  pub all-queues : (r : Registers) (ls : List (List ℕ)) → QueuesIn (figures (wordsOf r (record { pages = ls; rx = entries a; tx = entries b; completion = entries c }))) all
+  pub all-queues : (r : Registers) (ls : List (List ℕ)) → QueuesIn (figures (wordsOf r (record { layout = paged; pages = ls; rx = entries a; tx = entries b; completion = entries c }))) all
   all-queues r ls = record {
     long = simp length-append (omega (arith, bytes-long a (s .rx), bytes-long b (s .tx), bytes-long c (s .done)));
     rx = rw first (slots-as (bytesOf a) (length (entries a)) (entries a) (bytes-slots a (s .rx)));

@@ -6,7 +6,7 @@ use Prim.Native.Nat.{ℕ, _-_, _≤_}
 use lib.Dec.{eqb}
 use lib.ListN.{length, replicate, take}
 use Rattle.rules.specs.Chip as rules
-use Rattle.rules.specs.Chip.{Chip, Pool}
+use Rattle.rules.specs.Chip.{paged, Chip, Pool}
 use Rattle.rules.specs.WellFormed.{WellFormed}
 use Rattle.listed.specs.declared.Page.{Page}
 use Rattle.listed.specs.declared.Packet.{Packet}
@@ -76,7 +76,7 @@ registersOf r = record {
 }
 
 abbrev pub poolOf : Registers → List (List Page) → Pool
-poolOf r m = record { pages = pagesOf m; rx = entries (r .rx); tx = entries (r .tx); completion = entries (r .done) }
+poolOf r m = record { layout = paged; pages = pagesOf m; rx = entries (r .rx); tx = entries (r .tx); completion = entries (r .done) }
 
 -- registers, page map and memory
 abbrev pub view : Registers → List (List Page) → List ℕ → Chip

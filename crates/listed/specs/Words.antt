@@ -6,13 +6,13 @@ use Prim.Native.Nat.{ℕ, _+_, _*_, _/_, _%_, _^_, _<_}
 use native.Mathlib.Omega.{arith}
 use lib.ListN.{length, getD}
 use Rattle.rules.specs.Bits.{bit, flag, wordOf, wordAt}
-use Rattle.rules.specs.Lists.{member, some?, freeBelow}
-use Rattle.rules.specs.Chip.{Registers, Pool}
+use Rattle.rules.specs.Lists.{member, some?}
+use Rattle.rules.specs.Chip.{Registers, Pool, freeFor}
 use Rattle.rules.specs.WellFormed.{Distinct, Formed}
-use Rattle.lists.specs.Facts.{free-few}
+use Rattle.wellformed.specs.Layouts.{free-total}
 use Rattle.lists.specs.Each.{each-at, member-each}
 use Rattle.wellformed.specs.Count.{distinct-few}
-use Rattle.wellformed.specs.Pool.{has-small}
+use Rattle.wellformed.specs.Pool.{has-small, good-lists}
 use Rattle.sets.specs.Members.{setOf, set-small}
 use Rattle.state.specs.View.{word, bytes, registersIn, Latches, Kept}
 use Rattle.state.specs.Written.{Written, written-out}
@@ -97,8 +97,8 @@ small-queue ls l long d h =
     let small : setOf l < 2 ^ 24 = set-small 24 l d (member-each (λ k. k < 24) l low) in
     record { count = omega (arith, distinct-few 24 l d low); lower = omega arith; upper = omega (arith, small) }
 
-free-small : (ls : List (List ℕ)) → wordOf 24 (length (freeBelow 24 ls)) < 65536
-free-small ls = two _ _ (omega arith) (omega (arith, free-few 24 ls))
+free-small : (r : Registers) (p : Pool) → Formed 24 r p → wordOf 24 (length (freeFor (p .layout) (p .pages))) < 65536
+free-small r p well = two _ _ (omega arith) (omega (arith, free-total (p .layout) 24 (p .pages) (good-lists well)))
 
 module _ (r : Registers) (t : Typed r) (p : Pool) where
   pub registers-back : registersIn (wordsOf r p) ≡ r
@@ -159,7 +159,7 @@ module _ (r : Registers) (t : Typed r) (p : Pool) where
             (
               words 2,
               (
-                free-small (p .pages),
+                free-small r p well,
                 (
                   two _ _ (byte 0) high,
                   (

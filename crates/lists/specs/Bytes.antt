@@ -115,7 +115,7 @@ value-word a pages m = omega arith
 part-new : (m : List ℕ) (i : ℕ) (bytes : List ℕ) → i + length bytes ≤ length m → take i m ++ (bytes ++ drop (length bytes) (drop i m)) ≡ sets m i bytes
 part-new m i bytes h = rw (drop-drop (length bytes) i m) (sym (append-assoc (take i m) bytes _) ∙ sym (sets-eq bytes m i h))
 
-part-over : (m : List ℕ) (i k : ℕ) (bytes : List ℕ) → length bytes ≤ k → i + k ≤ length m
+pub part-over : (m : List ℕ) (i k : ℕ) (bytes : List ℕ) → length bytes ≤ k → i + k ≤ length m
     → take i m ++ (over bytes (take k (drop i m)) ++ drop k (drop i m)) ≡ sets m i bytes
 part-over m i k bytes h f =
     let n = length bytes in

@@ -1,19 +1,19 @@
 -- What the proofs of this crate, and of those above it, need of `Room`, of the pages that are left in a walk, and of the image of a frame.
 use mathlib.Core.Path.{_≡_, refl, ap, ap₂, sym, _∙_}
 use mathlib.Core.Bool.{true}
-use mathlib.Core.List.{List, [], _∷_}
+use mathlib.Core.List.{List, [], _∷_, _++_}
 use Prim.Native.Nat.{ℕ, zero, suc, _+_, _-_, _*_, _/_, _%_, _^_, _≤_, _<_}
 use native.Mathlib.Nat.{add-suc}
 use native.Mathlib.Omega.{arith}
 use lib.Count.{ones-le}
-use lib.ListN.{length, drop, getD, set, length-drop}
-use lib.Seq.{getD-drop}
+use lib.ListN.{length, take, drop, getD, set, length-drop}
+use lib.Seq.{getD-drop, length-take-le}
 use Rattle.rules.specs.Lists.{member}
-use Rattle.rules.specs.Bits.{wordOf}
+use Rattle.rules.specs.Bits.{lowByte, highByte, wordOf}
 use Rattle.rules.specs.Data.{valueOf}
 use Rattle.rules.specs.Packet.{place, getBytes, putBytes}
-use Rattle.rules.specs.Receive.{Frame, countOf, frameStatus, image}
-use Rattle.lists.specs.Bytes.{Below, length-put, value-one, value-two}
+use Rattle.rules.specs.Receive.{Frame, countOf, trailer, frameStatus, image}
+use Rattle.lists.specs.Bytes.{Below, put-append, length-put, value-one, value-two}
 use Rattle.lists.specs.Facts.{member-later}
 use Rattle.sets.specs.Views.{pagesOf}
 use Rattle.sets.specs.Pages.{pages-count}
@@ -27,6 +27,20 @@ room-of end set pages memory e w b h = record { whole = w; below = rw e b; withi
 pub image-is : (f : Frame) (n : ℕ) → image f n ≡ imageOf (frameStatus f n) (countOf n) n (f .bytes)
 unfolding image
 image-is f n = refl
+
+-- put in three parts
+pub put-image : {headed stored after : List ℕ} (status count n : ℕ) (bytes pages m : List ℕ) → n ≤ length bytes
+    → headed ≡ putBytes (lowByte status ∷ highByte status ∷ lowByte count ∷ highByte count ∷ []) 0 pages m
+    → stored ≡ putBytes (take n bytes) 4 pages headed
+    → after ≡ putBytes (trailer n) (n + 4) pages stored
+    → after ≡ putBytes (imageOf status count n bytes) 0 pages m
+unfolding putBytes
+put-image {headed} status count n bytes pages m h e f g =
+    g
+    ∙ ap (putBytes (trailer n) (n + 4) pages) f
+    ∙ ap (λ (k : ℕ). putBytes (trailer n) (k + 4) pages (putBytes (take n bytes) 4 pages headed)) (sym (length-take-le n bytes h))
+    ∙ sym (put-append (take n bytes) (trailer n) 4 pages headed)
+    ∙ ap (putBytes (take n bytes ++ trailer n) 4 pages) e
 
 member-drop : (x k : ℕ) (l : List ℕ) → member x (drop k l) ≡ true → member x l ≡ true
 member-drop x zero l m = m

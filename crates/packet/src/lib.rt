@@ -7,4 +7,5 @@ pub use access::read_byte;
 pub use access::read_word;
 pub use access::write_status;
 pub use fill::copy_out;
+pub use fill::fill_part;
 pub use frame::store_frame;

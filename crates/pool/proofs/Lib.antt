@@ -1,4 +1,3 @@
 -- Proofs that belong to no one function.
 pub mod Marks
-pub mod Emptied
 pub mod Paged

@@ -5,12 +5,14 @@ mod pages; // pages.rt: pages granted and made free, and how many are free
 mod requests; // requests.rt: allocations, and pages given back
 
 use figures::rx_bits;
-use figures::store_none;
+pub use figures::store_none;
 use figures::store_rx;
 use figures::store_tx;
 use figures::tx_bits;
+pub use pages::fewer;
 pub use pages::free_count;
 pub use pages::grant;
+pub use pages::more;
 use queues::marks;
 pub use requests::allocate;
 pub use requests::give_back;

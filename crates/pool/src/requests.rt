@@ -8,7 +8,7 @@ use state::WAITING;
 ghost use mathlib.Core.List.{map};
 ghost use Prim.Native.Nat.{_≤_, _<_};
 ghost use lib.ListN.{length};
-ghost use Rattle.rules.specs.Lists.{freeBelow};
+ghost use Rattle.rules.specs.Chip.{paged, freeFor};
 ghost use Rattle.rules.specs.Fields.{setResult, setWaiting};
 ghost use Rattle.rules.specs.Mmu as rules;
 ghost use Rattle.rules.specs.WellFormed.{GoodPages};
@@ -28,7 +28,7 @@ pub fn give_result(words: &mut [u16], result: u8, waiting: u16)
 
 // An allocation is granted: the lowest unallocated number gets the lowest free pages, the result reads it, and none waits.
 pub fn allocate(words: &mut [u16], sets: &mut [u32], need: u32)
-    requires { ⌜ Kept (now words) × SetsIn (figures (now words)) (now sets) × GoodPages 24 (map pagesOf (now sets)) × (1 ≤ need) × (need ≤ 8) × (need ≤ length (freeBelow 24 (map pagesOf (now sets)))) ⌝ }
+    requires { ⌜ Kept (now words) × SetsIn (figures (now words)) (now sets) × GoodPages 24 (map pagesOf (now sets)) × (1 ≤ need) × (need ≤ 8) × (need ≤ length (freeFor paged (map pagesOf (now sets)))) ⌝ }
     ensures { λ _. ⌜ Alters (rules.grant need) (now (words .entry)) (now (sets .entry)) (now (words .exit)) (now (sets .exit)) ⌝ }
 {
     let number = sets::lowest_unallocated(sets) as u8;

@@ -21,17 +21,9 @@ use Rattle.receive.specs.Arrivals.{withRcr, withControl}
 
 -- The rules see only what a part is given of the registers.
 module _ (r : Registers) where
-  pub data-by : (len : ℕ) → dataLength r len ≡ dataLength (withRcr (r .receiving .rcr)) len
-  unfolding dataLength
-  data-by len = refl
-
   pub dropped-by : (f : Frame) → dropped r f ≡ dropped (withControl (r .control)) f
   unfolding dropped
   dropped-by f = refl
-
-  pub needed-by : (len n need : ℕ) → n ≡ dataLength (withRcr (r .receiving .rcr)) len → need ≡ pagesFor (countOf n) → need ≡ needed r len
-  unfolding needed
-  needed-by len n need e f = f ∙ ap (λ (x : ℕ). pagesFor (countOf x)) (e ∙ sym (data-by len))
 
   -- The judgement, with its tests answered.
   pub judge-is : (free : ℕ) (f : Frame) (a b x d y : Bool) → bit 8 (r .receiving .rcr) ≡ a → accepted r (destination f) ≡ b → ltb 1532 (length (f .bytes)) ≡ x → dropped r f ≡ d
@@ -42,10 +34,10 @@ module _ (r : Registers) where
 
 -- A change of the registers is a step that answers v; and it may come before a step.
 pub does-with : {f : Registers → Registers} {w w′ : List ℕ} → (v : ℕ) → Sets f w w′ → Does (λ c. doneWith v (inRegisters f c)) w (Done v) w′
-does-with v a = record { step = λ s q mem. ap (doneWith v) (sets-chip a s q mem); still = a .still; kept = a .kept }
+does-with v a = record { step = λ l s q mem. ap (doneWith v) (sets-chip a l s q mem); still = a .still; kept = a .kept }
 
 pub does-after : {f : Chip → Effect} {g : Registers → Registers} {w w′ w″ : List ℕ} {a : Answer} → Sets g w w′ → Does f w′ a w″ → Does (λ c. f (inRegisters g c)) w a w″
-does-after {f} a d = record { step = λ s q mem. d .step s q mem ∙ ap f (sets-chip a s q mem); still = d .still ∙ a .still; kept = d .kept }
+does-after {f} a d = record { step = λ l s q mem. d .step l s q mem ∙ ap f (sets-chip a l s q mem); still = d .still ∙ a .still; kept = d .kept }
 
 -- RX_ABORT set
 pub sets-abort : (y : ℕ) (w : List ℕ) → Kept w → y ≡ setBit 0 (word w 2) → Sets abort w (set w 2 y)

@@ -1,16 +1,14 @@
 -- What the parts of an arrival ask and promise: the rules' definitions at what each part is given.
-use mathlib.Core.Path.{_≡_}
+use mathlib.Core.Path.{_≡_, refl, ap, sym, _∙_}
 use mathlib.Core.Bool.{Bool}
-use mathlib.Core.List.{List, [], map}
-use Prim.Native.Nat.{ℕ, _≤_}
+use mathlib.Core.List.{List, []}
+use Prim.Native.Nat.{ℕ, _/_, _≤_}
 use lib.ListN.{length}
-use Rattle.rules.specs.Lists.{freeBelow}
-use Rattle.rules.specs.Chip.{Registers, resetRegisters}
+use Rattle.rules.specs.Chip.{Registers, Layout, paged, resetRegisters}
 use Rattle.rules.specs.Fields.{setRcr, setControl}
 use Rattle.rules.specs.Receive.{Frame, Arrival, stored, disabled, notAccepted, tooLong, bad, noRoom, judge}
-use Rattle.sets.specs.Views.{pagesOf}
-use Rattle.state.specs.View.{registersIn}
-use Rattle.state.specs.Promise.{Ready}
+use Rattle.state.specs.View.{word, registersIn}
+use Rattle.state.specs.Promise.{ReadyOf}
 use Rattle.receive.specs.declared.Verdict.{Verdict}
 use Rattle.receive.specs.declared.Verdict.the-variants.{Stored, Disabled, NotAccepted, TooLong, Bad, NoRoom}
 
@@ -23,6 +21,27 @@ arrivalOf TooLong = tooLong
 arrivalOf Bad = bad
 arrivalOf NoRoom = noRoom
 
+-- so a verdict is known from its arrival
+verdictOf : Arrival → Verdict
+verdictOf stored = Stored
+verdictOf disabled = Disabled
+verdictOf notAccepted = NotAccepted
+verdictOf tooLong = TooLong
+verdictOf bad = Bad
+verdictOf noRoom = NoRoom
+
+verdict-back : (v : Verdict) → verdictOf (arrivalOf v) ≡ v
+unfolding verdictOf
+verdict-back Stored = refl
+verdict-back Disabled = refl
+verdict-back NotAccepted = refl
+verdict-back TooLong = refl
+verdict-back Bad = refl
+verdict-back NoRoom = refl
+
+pub verdict-once : (a b : Verdict) → arrivalOf a ≡ arrivalOf b → a ≡ b
+verdict-once a b e = sym (verdict-back a) ∙ ap verdictOf e ∙ verdict-back b
+
 abbrev pub frameOf : List ℕ → Bool → Bool → Frame
 frameOf bytes badCrc alignment = record { bytes = bytes; badCrc = badCrc; alignment = alignment }
 
@@ -34,7 +53,10 @@ abbrev pub withControl : ℕ → Registers
 withControl control = setControl control (resetRegisters [])
 
 -- a frame that is long enough and judged to be stored, in a state that is in order
-pub record Stowable (w s q : List ℕ) (f : Frame) : Type 0 where
-  pub ready : Ready w s q
+pub record StowableOf (l : Layout) (w s q : List ℕ) (f : Frame) : Type 0 where
+  pub ready : ReadyOf l w s q
   pub long : 18 ≤ length (f .bytes)
-  pub told : judge (registersIn w) (length (freeBelow 24 (map pagesOf s))) f ≡ stored
+  pub told : judge (registersIn w) (word w 4 / 256) f ≡ stored
+
+abbrev pub Stowable : List ℕ → List ℕ → List ℕ → Frame → Type 0
+Stowable = StowableOf paged

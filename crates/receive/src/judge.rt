@@ -11,15 +11,11 @@ use state::RESERVED;
 use state::flags;
 ghost use mathlib.Core.Path.{_≡_};
 ghost use mathlib.Core.Bool.{_||_};
-ghost use mathlib.Core.List.{List, map};
-ghost use Prim.Native.Nat.{ℕ, _+_, _%_, _≤_};
+ghost use Prim.Native.Nat.{_+_, _/_, _%_, _≤_};
 ghost use lib.Dec.{ltb};
 ghost use lib.ListN.{length};
-ghost use Rattle.rules.specs.Lists.{freeBelow};
 ghost use Rattle.rules.specs.Receive.{dropped, needed, judge};
-ghost use Rattle.sets.specs.Views.{pagesOf};
-ghost use Rattle.state.specs.View.{word, registersIn, figures};
-ghost use Rattle.state.specs.Promise.{SetsIn};
+ghost use Rattle.state.specs.View.{word, registersIn};
 ghost use Rattle.receive.specs.Arrivals.{arrivalOf, frameOf, withControl};
 
 // Flagged or under 64 bytes.
@@ -48,15 +44,16 @@ fn is_dropped(control: u16, frame: &[u8], badcrc: bool, alignment: bool) -> bool
 // Fewer pages are free than the frame needs together with those reserved for transmit, the low byte of their word.
 fn is_full(words: &[u16], len: usize) -> bool
     requires { ⌜ (length (now words) ≡ 32) × (18 ≤ len) × (len ≤ 1532) ⌝ }
-    ensures { λ b. ⌜ ((s : List ℕ) → SetsIn (figures (now (words .entry))) s → b ≡ ltb (length (freeBelow 24 (map pagesOf s))) (needed (registersIn (now (words .entry))) len + word (now (words .entry)) 5 % 256)) ⌝ }
+    ensures { λ b. ⌜ b ≡ ltb (word (now (words .entry)) 4 / 256) (needed (registersIn (now (words .entry))) len + word (now (words .entry)) 5 % 256) ⌝ }
 {
     let need = pages_for(data_length(words[RCR], len));
     pool::free_count(words) < need + (words[RESERVED] % 256) as u32
 }
 
+// By the words alone: MIR's high byte counts the free pages.
 pub fn judged(words: &[u16], frame: &[u8], badcrc: bool, alignment: bool) -> Verdict
     requires { ⌜ (length (now words) ≡ 32) × (18 ≤ length (now frame)) ⌝ }
-    ensures { λ v. ⌜ ((s : List ℕ) → SetsIn (figures (now (words .entry))) s → arrivalOf v ≡ judge (registersIn (now (words .entry))) (length (freeBelow 24 (map pagesOf s))) (frameOf (now (frame .entry)) badcrc alignment)) ⌝ }
+    ensures { λ v. ⌜ arrivalOf v ≡ judge (registersIn (now (words .entry))) (word (now (words .entry)) 4 / 256) (frameOf (now (frame .entry)) badcrc alignment) ⌝ }
 {
     if !bits::is_set(words[RCR], flags::RXEN) {
         return Verdict::Disabled;

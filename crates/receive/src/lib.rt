@@ -4,6 +4,11 @@ mod length; // length.rt: how much is stored of a frame, and its status
 mod judge; // judge.rt: the verdict
 mod stow; // stow.rt: a frame that is stored
 
+pub use judge::judged;
+pub use length::count_of;
+pub use length::data_length;
+pub use length::pages_for;
+pub use length::status_of;
 use state::Answer;
 use state::LATCHES;
 use state::RCR;
@@ -19,7 +24,7 @@ ghost use Rattle.state.specs.Promise.{Ready, Does, Makes};
 ghost use Rattle.receive.specs.Arrivals.{frameOf};
 
 // What becomes of a frame; the answer's value in the order of document 01 is 0 to 5.
-enum Verdict {
+pub enum Verdict {
     Stored,
     Disabled,
     NotAccepted,
@@ -29,7 +34,7 @@ enum Verdict {
 }
 
 // The frame is not stored, and RX_ABORT says so.
-fn aborted(words: &mut [u16], value: u16) -> Answer
+pub fn aborted(words: &mut [u16], value: u16) -> Answer
     requires { ⌜ Kept (now words) ⌝ }
     ensures { λ a. ⌜ Does (λ c. doneWith value (inRegisters abort c)) (now (words .entry)) a (now (words .exit)) ⌝ }
 {
@@ -38,7 +43,7 @@ fn aborted(words: &mut [u16], value: u16) -> Answer
 }
 
 // And for want of room, RX_OVRN.
-fn overrun(words: &mut [u16], value: u16) -> Answer
+pub fn overrun(words: &mut [u16], value: u16) -> Answer
     requires { ⌜ Kept (now words) ⌝ }
     ensures { λ a. ⌜ Does (λ c. doneWith value (inRegisters (λ r. setOverrun true (abort r)) c)) (now (words .entry)) a (now (words .exit)) ⌝ }
 {

@@ -7,14 +7,14 @@ use native.Mathlib.Omega.{arith}
 use lib.Dec.{eqb}
 use lib.ListN.{set, drop}
 use Rattle.rules.specs.Bits.{bit, lowByte, highByte}
-use Rattle.rules.specs.Chip.{Registers, Chip}
+use Rattle.rules.specs.Chip.{Registers, Layout, Chip}
 use Rattle.rules.specs.Fields.{setTxEmpty, setOverrun, setCompletion, setMask, inRegisters, inPool}
 use Rattle.rules.specs.Interrupts.{acknowledge}
 use Rattle.rules.specs.Registers.{Lanes, low, high, both, INTERRUPT, writeInterrupt, writeRegister}
 use Rattle.state.specs.declared.Answer.the-variants.{Done}
 use Rattle.state.specs.Meaning.{isHigh, highAfter, Joined}
-use Rattle.state.specs.View.{word, registersIn, figures, queueIn, view, Kept}
-use Rattle.state.specs.Promise.{QueuesIn, SetsIn, Sets, sets-as, sets-chip, Makes}
+use Rattle.state.specs.View.{word, registersIn, figures, queueIn, viewOf, Kept}
+use Rattle.state.specs.Promise.{QueuesIn, PagesIn, Sets, sets-as, sets-chip, MakesOf}
 use Rattle.state.specs.Stores.{store-latches, store-mask}
 use Rattle.pool.specs.Queues.{Rejoins, rejoins-chip}
 use Rattle.registers.specs.Promises.{Acknowledged, Acknowledges}
@@ -46,7 +46,7 @@ module _ (v new : ℕ) (w q : List ℕ) (k : Kept w) (h : QueuesIn (figures w) q
   -- where the queue of completion stays as it was
   same-queue : cond (bit 1 (lowByte v)) (drop 1 (queueIn 2 (word w 9) q)) (queueIn 2 (word w 9) q) ≡ queueIn 2 (word w 9) q → Acknowledges v w q (set w 13 new) q
   same-queue e = record {
-    chip = λ s mem. sets-chip latched s q mem ∙ ap (λ (l : List ℕ). inPool (setCompletion l) (inRegisters (unlatched v) (view w s q mem))) (sym e);
+    chip = λ l s mem. sets-chip latched l s q mem ∙ ap (λ (x : List ℕ). inPool (setCompletion x) (inRegisters (unlatched v) (viewOf l w s q mem))) (sym e);
     free = mir-then;
     kept = kept-then;
     queues = queues-then;
@@ -66,9 +66,9 @@ module _ (v new : ℕ) (w q : List ℕ) (k : Kept w) (h : QueuesIn (figures w) q
 
   pub head-leaves : {w′ q′ : List ℕ} → bit 1 v ≡ true → Rejoins (λ p. setCompletion (drop 1 (p .completion)) p) (set w 13 new) q w′ q′ → Acknowledges v w q w′ q′
   head-leaves e r = record {
-    chip = λ s mem. rejoins-chip r s mem
-        ∙ ap (inPool (λ p. setCompletion (drop 1 (p .completion)) p)) (sets-chip latched s q mem)
-        ∙ ap (λ (b : Bool). inPool (setCompletion (cond b (drop 1 (queueIn 2 (word w 9) q)) (queueIn 2 (word w 9) q))) (inRegisters (unlatched v) (view w s q mem))) (sym (same-bit v ∙ e));
+    chip = λ l s mem. rejoins-chip r l s mem
+        ∙ ap (inPool (λ p. setCompletion (drop 1 (p .completion)) p)) (sets-chip latched l s q mem)
+        ∙ ap (λ (b : Bool). inPool (setCompletion (cond b (drop 1 (queueIn 2 (word w 9) q)) (queueIn 2 (word w 9) q))) (inRegisters (unlatched v) (viewOf l w s q mem))) (sym (same-bit v ∙ e));
     free = r .free ∙ mir-then;
     kept = r .kept;
     queues = r .queues;
@@ -98,21 +98,21 @@ module _ (p : Lanes) (v new m : ℕ) (w q : List ℕ) (k : Kept w) (h : QueuesIn
   pub masked-queues : QueuesIn (figures (set w 22 m)) q
   masked-queues = subst (λ (c : List ℕ). QueuesIn c q) (sym (masked .still)) h
 
-  masked-sets : {s : List ℕ} → SetsIn (figures w) s → SetsIn (figures (set w 22 m)) s
-  masked-sets {s} e = subst (λ (c : List ℕ). SetsIn c s) (sym (masked .still)) e
+  masked-sets : {l : Layout} {s : List ℕ} → PagesIn l (figures w) s → PagesIn l (figures (set w 22 m)) s
+  masked-sets {l} {s} e = subst (λ (c : List ℕ). PagesIn l c s) (sym (masked .still)) e
 
-  pub writes-mask : isHigh p ≡ true → (s mem : List ℕ) → SetsIn (figures w) s → Makes (writeRegister INTERRUPT p v (view w s q mem)) (Done 0) (set w 22 m) s q mem
+  pub writes-mask : isHigh p ≡ true → (l : Layout) (s mem : List ℕ) → PagesIn l (figures w) s → MakesOf l (writeRegister INTERRUPT p v (viewOf l w s q mem)) (Done 0) (set w 22 m) s q mem
   unfolding writeRegister
-  writes-mask e s mem h = record {
-    chip = sets-chip masked s q mem ∙ mask-alone p v (new / 256) (word w 22) (view w s q mem) e (joined .high);
+  writes-mask e l s mem h = record {
+    chip = sets-chip masked l s q mem ∙ mask-alone p v (new / 256) (word w 22) (viewOf l w s q mem) e (joined .high);
     reply = refl;
     sound = record { kept = masked-kept; queues = masked-queues; sets = masked-sets h };
   }
 
-  pub writes-both : {w′ q′ : List ℕ} → isHigh p ≡ false → Acknowledges v (set w 22 m) q w′ q′ → (s mem : List ℕ) → SetsIn (figures w) s → Makes (writeRegister INTERRUPT p v (view w s q mem)) (Done 0) w′ s q′ mem
+  pub writes-both : {w′ q′ : List ℕ} → isHigh p ≡ false → Acknowledges v (set w 22 m) q w′ q′ → (l : Layout) (s mem : List ℕ) → PagesIn l (figures w) s → MakesOf l (writeRegister INTERRUPT p v (viewOf l w s q mem)) (Done 0) w′ s q′ mem
   unfolding writeRegister
-  writes-both e a s mem h = record {
-    chip = a .chip s mem ∙ ap (acknowledge (lowByte v)) (sets-chip masked s q mem) ∙ with-mask p v (new / 256) (word w 22) (view w s q mem) e refl (joined .high);
+  writes-both e a l s mem h = record {
+    chip = a .chip l s mem ∙ ap (acknowledge (lowByte v)) (sets-chip masked l s q mem) ∙ with-mask p v (new / 256) (word w 22) (viewOf l w s q mem) e refl (joined .high);
     reply = refl;
     sound = record { kept = a .kept; queues = a .queues; sets = record { many = h .many; free = a .free ∙ masked-sets h .free; small = h .small } };
   }

@@ -5,11 +5,11 @@ use mathlib.Core.List.{List, _++_}
 use Prim.Native.Nat.{ℕ}
 use lib.ListN.{take, drop, replicate}
 use Rattle.rules.specs.Bits.{bit, lowByte}
-use Rattle.rules.specs.Chip.{resetRegisters}
+use Rattle.rules.specs.Chip.{Layout, paged, resetRegisters}
 use Rattle.rules.specs.Interrupts.{acknowledge}
 use Rattle.rules.specs.Registers.{softReset}
-use Rattle.state.specs.View.{word, registersIn, figures, view, Latches, Kept}
-use Rattle.state.specs.Promise.{QueuesIn, Sound}
+use Rattle.state.specs.View.{word, registersIn, figures, viewOf, Latches, Kept}
+use Rattle.state.specs.Promise.{QueuesIn, SoundOf}
 use Rattle.state.specs.Only.{words-once}
 
 -- the latches x after an acknowledge by the low byte of v
@@ -18,9 +18,9 @@ pub record Acknowledged (v x y : ℕ) : Type 0 where
   pub overrun : bit 4 y ≡ bit 4 x && not (bit 4 (lowByte v))
   pub latched : Latches y
 
--- the same of the chip, whatever the page sets; MIR stays
+-- the same of the chip, whatever the packets' pages; MIR stays
 pub record Acknowledges (v : ℕ) (w q w′ q′ : List ℕ) : Type 0 where
-  pub chip : (s mem : List ℕ) → view w′ s q′ mem ≡ acknowledge (lowByte v) (view w s q mem)
+  pub chip : (l : Layout) (s mem : List ℕ) → viewOf l w′ s q′ mem ≡ acknowledge (lowByte v) (viewOf l w s q mem)
   pub free : word w′ 4 ≡ word w 4
   pub kept : Kept w′
   pub queues : QueuesIn (figures w′) q′
@@ -40,6 +40,9 @@ pub resets-once : {w w₁ w₂ : List ℕ} → WordsReset w w₁ → WordsReset 
 resets-once a b = words-once (a .kept) (b .kept) (a .regs ∙ sym (b .regs)) (a .none ∙ sym (b .none))
 
 -- the state after a soft reset
-pub record SoftResets (w s q w′ s′ q′ : List ℕ) : Type 0 where
-  pub chip : (mem : List ℕ) → view w′ s′ q′ mem ≡ softReset (view w s q mem)
-  pub sound : Sound w′ s′ q′
+pub record SoftResetsOf (l : Layout) (w s q w′ s′ q′ : List ℕ) : Type 0 where
+  pub chip : (mem : List ℕ) → viewOf l w′ s′ q′ mem ≡ softReset (viewOf l w s q mem)
+  pub sound : SoundOf l w′ s′ q′
+
+abbrev pub SoftResets : List ℕ → List ℕ → List ℕ → List ℕ → List ℕ → List ℕ → Type 0
+SoftResets = SoftResetsOf paged

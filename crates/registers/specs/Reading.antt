@@ -1,36 +1,35 @@
 -- The words of MIR, of the heads and of interrupt status, as the rules read them: for the match that answers a read.
 use mathlib.Core.Path.{_≡_, ap, sym, _∙_}
-use mathlib.Core.List.{List, map}
+use mathlib.Core.List.{List}
 use Prim.Native.Nat.{ℕ}
 use lib.ListN.{length}
 use Rattle.rules.specs.Bits.{wordOf}
-use Rattle.rules.specs.Lists.{freeBelow}
+use Rattle.rules.specs.Chip.{Layout, freeFor}
 use Rattle.rules.specs.Answers.{Effect, doneWith}
 use Rattle.rules.specs.Interrupts.{status}
 use Rattle.rules.specs.Registers.{Register, Lanes, MIR, HEADS, INTERRUPT, headOf, taken, readRegister}
-use Rattle.sets.specs.Views.{pagesOf}
-use Rattle.sets.specs.Lists.{lists-length}
 use Rattle.state.specs.declared.Answer.the-variants.{Done}
-use Rattle.state.specs.View.{word, registersIn, figures, queueIn, view}
-use Rattle.state.specs.Promise.{QueuesIn, Sound, Makes}
+use Rattle.state.specs.View.{word, registersIn, figures, queueIn, listsOf, viewOf}
+use Rattle.state.specs.Pages.{numbers-length}
+use Rattle.state.specs.Promise.{QueuesIn, SoundOf, MakesOf}
 
-module _ (p : Lanes) (w s q : List ℕ) (o : Sound w s q) where
+module _ {l : Layout} (p : Lanes) (w s q : List ℕ) (o : SoundOf l w s q) where
   -- a read that gives a word and changes nothing
-  reads : (k : Register) (x : ℕ) (mem : List ℕ) → doneWith (taken p x) (view w s q mem) ≡ readRegister k p (view w s q mem) → Makes (readRegister k p (view w s q mem)) (Done (taken p x)) w s q mem
+  reads : (k : Register) (x : ℕ) (mem : List ℕ) → doneWith (taken p x) (viewOf l w s q mem) ≡ readRegister k p (viewOf l w s q mem) → MakesOf l (readRegister k p (viewOf l w s q mem)) (Done (taken p x)) w s q mem
   reads k x mem e = record { chip = ap (λ (f : Effect). f .chip) e; reply = ap (λ (f : Effect). f .reply) e; sound = o }
 
   -- MIR is kept, and read as it stands
-  pub reads-mir : (mem : List ℕ) → Makes (readRegister MIR p (view w s q mem)) (Done (taken p (word w 4))) w s q mem
+  pub reads-mir : (mem : List ℕ) → MakesOf l (readRegister MIR p (viewOf l w s q mem)) (Done (taken p (word w 4))) w s q mem
   unfolding readRegister
   reads-mir mem =
-      let size = lists-length s ∙ o .sets .many in
-      reads MIR (word w 4) mem (ap (λ (x : ℕ). doneWith (taken p x) (view w s q mem)) (o .sets .free ∙ ap (λ (n : ℕ). wordOf n (length (freeBelow n (map pagesOf s)))) (sym size)))
+      let size = numbers-length l s ∙ o .sets .many in
+      reads MIR (word w 4) mem (ap (λ (x : ℕ). doneWith (taken p x) (viewOf l w s q mem)) (o .sets .free ∙ ap (λ (n : ℕ). wordOf n (length (freeFor l (listsOf l s)))) (sym size)))
 
-  pub reads-heads : (r : ℕ) → r ≡ wordOf (headOf (queueIn 2 (word w 9) q)) (headOf (queueIn 0 (word w 6) q)) → (mem : List ℕ) → Makes (readRegister HEADS p (view w s q mem)) (Done (taken p r)) w s q mem
+  pub reads-heads : (r : ℕ) → r ≡ wordOf (headOf (queueIn 2 (word w 9) q)) (headOf (queueIn 0 (word w 6) q)) → (mem : List ℕ) → MakesOf l (readRegister HEADS p (viewOf l w s q mem)) (Done (taken p r)) w s q mem
   unfolding readRegister
-  reads-heads r e mem = reads HEADS r mem (ap (λ (x : ℕ). doneWith (taken p x) (view w s q mem)) e)
+  reads-heads r e mem = reads HEADS r mem (ap (λ (x : ℕ). doneWith (taken p x) (viewOf l w s q mem)) e)
 
-  pub reads-interrupt : (r : ℕ) → ((s′ q′ mem′ : List ℕ) → QueuesIn (figures w) q′ → r ≡ wordOf (status (view w s′ q′ mem′)) (registersIn w .mask))
-      → (mem : List ℕ) → Makes (readRegister INTERRUPT p (view w s q mem)) (Done (taken p r)) w s q mem
+  pub reads-interrupt : (r : ℕ) → ((l′ : Layout) (s′ q′ mem′ : List ℕ) → QueuesIn (figures w) q′ → r ≡ wordOf (status (viewOf l′ w s′ q′ mem′)) (registersIn w .mask))
+      → (mem : List ℕ) → MakesOf l (readRegister INTERRUPT p (viewOf l w s q mem)) (Done (taken p r)) w s q mem
   unfolding readRegister
-  reads-interrupt r e mem = reads INTERRUPT r mem (ap (λ (x : ℕ). doneWith (taken p x) (view w s q mem)) (e s q mem (o .queues)))
+  reads-interrupt r e mem = reads INTERRUPT r mem (ap (λ (x : ℕ). doneWith (taken p x) (viewOf l w s q mem)) (e l s q mem (o .queues)))

@@ -17,11 +17,12 @@ ghost use mathlib.Core.List.{List};
 ghost use Prim.Native.Nat.{ℕ, _+_, _*_, _<_};
 ghost use lib.ListN.{length};
 ghost use Rattle.rules.specs.Bits.{bit, flag, wordOf};
+ghost use Rattle.rules.specs.Chip.{Layout};
 ghost use Rattle.rules.specs.Interrupts as rules;
 ghost use Rattle.rules.specs.Registers.{INTERRUPT, lanesAt, writeRegister};
 ghost use Rattle.state.specs.Meaning.{widthOf, Placed};
-ghost use Rattle.state.specs.View.{registersIn, figures, view, Kept};
-ghost use Rattle.state.specs.Promise.{QueuesIn, SetsIn, Makes};
+ghost use Rattle.state.specs.View.{registersIn, figures, viewOf, Kept};
+ghost use Rattle.state.specs.Promise.{QueuesIn, PagesIn, MakesOf};
 ghost use Rattle.registers.specs.Promises.{Acknowledges};
 
 // Has a send failed, by EPHSR?
@@ -67,7 +68,7 @@ fn gathered(rx: bool, completion: bool, latches: u16, granted: bool, eph: bool) 
 // Interrupt status. It and the line are those of the queues that the counts are right for, which are not looked at.
 pub fn status(words: &[u16]) -> u16
     requires { ⌜ Kept (now words) ⌝ }
-    ensures shown { λ r. ⌜ ((s q mem : List ℕ) → QueuesIn (figures (now (words .entry))) q → r ≡ rules.status (view (now (words .entry)) s q mem)) ⌝ }
+    ensures shown { λ r. ⌜ ((l : Layout) (s q mem : List ℕ) → QueuesIn (figures (now (words .entry))) q → r ≡ rules.status (viewOf l (now (words .entry)) s q mem)) ⌝ }
     ensures small { λ r. ⌜ r < 64 ⌝ }
 {
     let granted = !bits::is_set(words[PACKET], flags::ALLOCATION_FAILED);
@@ -84,7 +85,7 @@ pub fn status(words: &[u16]) -> u16
 // Is the interrupt line up?
 pub fn line_up(words: &[u16]) -> bool
     requires { ⌜ Kept (now words) × ((q : List ℕ) × QueuesIn (figures (now words)) q) ⌝ }
-    ensures { λ b. ⌜ ((s q mem : List ℕ) → QueuesIn (figures (now (words .entry))) q → b ≡ rules.lineUp (view (now (words .entry)) s q mem)) ⌝ }
+    ensures { λ b. ⌜ ((l : Layout) (s q mem : List ℕ) → QueuesIn (figures (now (words .entry))) q → b ≡ rules.lineUp (viewOf l (now (words .entry)) s q mem)) ⌝ }
 {
     status(words) & (words[INTERRUPT] / 256) != 0
 }
@@ -92,7 +93,7 @@ pub fn line_up(words: &[u16]) -> bool
 // Interrupt status, and the mask above it.
 pub fn interrupt(words: &[u16]) -> u16
     requires { ⌜ Kept (now words) × ((q : List ℕ) × QueuesIn (figures (now words)) q) ⌝ }
-    ensures { λ r. ⌜ ((s q mem : List ℕ) → QueuesIn (figures (now (words .entry))) q → r ≡ wordOf (rules.status (view (now (words .entry)) s q mem)) (registersIn (now (words .entry)) .mask)) ⌝ }
+    ensures { λ r. ⌜ ((l : Layout) (s q mem : List ℕ) → QueuesIn (figures (now (words .entry))) q → r ≡ wordOf (rules.status (viewOf l (now (words .entry)) s q mem)) (registersIn (now (words .entry)) .mask)) ⌝ }
 {
     status(words) + words[INTERRUPT]
 }
@@ -120,8 +121,8 @@ pub fn write_interrupt(
     offset: u8,
     value: u16,
 ) -> Answer
-    requires { ⌜ Kept (now words) × QueuesIn (figures (now words)) (now queues) × Placed width offset × ((s : List ℕ) × SetsIn (figures (now words)) s) ⌝ }
-    ensures done { λ a. ⌜ ((s mem : List ℕ) → SetsIn (figures (now (words .entry))) s → Makes (writeRegister INTERRUPT (lanesAt (widthOf width) offset) value (view (now (words .entry)) s (now (queues .entry)) mem)) a (now (words .exit)) s (now (queues .exit)) mem) ⌝ }
+    requires { ⌜ Kept (now words) × QueuesIn (figures (now words)) (now queues) × Placed width offset × ((l : Layout) × (s : List ℕ) × PagesIn l (figures (now words)) s) ⌝ }
+    ensures done { λ a. ⌜ ((l : Layout) (s mem : List ℕ) → PagesIn l (figures (now (words .entry))) s → MakesOf l (writeRegister INTERRUPT (lanesAt (widthOf width) offset) value (viewOf l (now (words .entry)) s (now (queues .entry)) mem)) a (now (words .exit)) s (now (queues .exit)) mem) ⌝ }
     ensures long { λ a. ⌜ (length (now (words .exit)) ≡ 32) × (length (now (queues .exit)) ≡ 72) ⌝ }
 {
     words[INTERRUPT] = high_only(state::merged(width, offset, value, words[INTERRUPT]));

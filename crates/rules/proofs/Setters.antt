@@ -4,7 +4,7 @@ use mathlib.Core.Bool.{Bool}
 use mathlib.Core.List.{List, [], _∷_, map}
 use Prim.Native.Nat.{ℕ}
 use lib.ListN.{set}
-use Rattle.rules.specs.Chip.{Registers, Pool}
+use Rattle.rules.specs.Chip.{Registers, Layout, Pool}
 use Rattle.rules.specs.Fields.{setTcr, setEphsr, setEcr, setTxEmpty, setRcr, setReserved, setStation, setTable, setOverrun, setBank, setPacket, setResult, setWaiting, setPointer, setControl, setMask, setPages, setRx, setTx, setCompletion}
 
 -- what a field holds
@@ -13,6 +13,7 @@ pub data Field : Type 0 where
   latch : Bool → Field
   bytes : List ℕ → Field
   lists : List (List ℕ) → Field
+  laid : Layout → Field
 
 -- all fields of the registers, and of the pool
 abbrev pub fields : Registers → List Field
@@ -23,7 +24,7 @@ fields r =
     ∷ number (r .pointer) ∷ number (r .control) ∷ number (r .mask) ∷ []
 
 abbrev pub poolFields : Pool → List Field
-poolFields q = lists (q .pages) ∷ bytes (q .rx) ∷ bytes (q .tx) ∷ bytes (q .completion) ∷ []
+poolFields q = lists (q .pages) ∷ bytes (q .rx) ∷ bytes (q .tx) ∷ bytes (q .completion) ∷ laid (q .layout) ∷ []
 
 -- a setter's row: the fields after it, and the place and content of the one that it sets
 pub record Row : Type 0 where

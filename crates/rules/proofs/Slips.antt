@@ -16,7 +16,7 @@ use Rattle.rules.specs.Answers.{Effect, refuse}
 use Rattle.rules.specs.Mmu.{perform, allocate, reset, removeAndRelease, resetTx, lowestNumber, due, settle, freed, giveBack}
 use Rattle.rules.specs.Data.{against, ifOpen}
 use Rattle.rules.specs.Crc.{crcBit, crcBits, crcFrom, crc, hash}
-use Rattle.rules.specs.Tests.{ascends, allBelow, apart, noneOwned, pagesGood, queueGood, queuesGood, numbersGood, requestGood, formed, fit}
+use Rattle.rules.specs.Tests.{ascends, allBelow, apart, noneOwned, pagesGood, laidGood, queueGood, queuesGood, numbersGood, requestGood, formed, fit}
 use Rattle.rules.specs.Registers.{byte, word, read, write, misplaced, registerAt, lanesAt, taken, headOf, lowOnly, softReset, readRegister, writeRegister, access}
 use Rattle.rules.specs.Receive.{Frame, Arrival, stored, disabled, notAccepted, tooLong, bad, noRoom, countOf, needed, image, after}
 use Rattle.rules.specs.Send.{Send, byteCount, good, autoRelease, tally, counted, nibble, sendHead, ifUsable, ifSendable}
@@ -124,7 +124,7 @@ failed-single s ecr a b = rw (a, b)
 -- The first value is not 0, and each answer is that of the chip after the inputs before it: the bank is read, then bank 2 is selected and its queue heads are read.
 pub answers-go-on : history (driver (read word 14) ∷ driver (write byte 14 2) ∷ driver (read word 4) ∷ []) .replies
     ≡ record { number = 0; value = 0x3300 } ∷ record { number = 0; value = 0 } ∷ record { number = 0; value = 0x8080 } ∷ []
-unfolding runOf stepOf fit formed pagesGood ascends allBelow noneOwned numbersGood queuesGood queueGood requestGood apart serve access misplaced bit registerAt lanesAt readRegister writeRegister taken lowOnly wordOf headOf
+unfolding runOf stepOf fit formed pagesGood laidGood ascends allBelow noneOwned numbersGood queuesGood queueGood requestGood apart serve access misplaced bit registerAt lanesAt readRegister writeRegister taken lowOnly wordOf headOf
 answers-go-on = refl
 
 -- Refusal 8 comes before 9 and 10.

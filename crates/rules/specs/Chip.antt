@@ -1,9 +1,9 @@
--- Document 01, "What the model holds": the chip as numbers and lists, and its state at power-up.
+-- Document 01, "What the model holds": the chip as numbers and lists, and its state at power-up. Document 02, W3: a chip of strips.
 use mathlib.Core.Bool.{Bool, true, false}
 use mathlib.Core.List.{List, []}
-use Prim.Native.Nat.{ℕ, _*_}
+use Prim.Native.Nat.{ℕ, _-_, _*_}
 use lib.ListN.{length, getD, replicate}
-use Rattle.rules.specs.Lists.{some?, freeBelow}
+use Rattle.rules.specs.Lists.{some?, freeBelow, total, upFrom, firstEmpty}
 
 -- what a send reads and writes
 pub record Sending : Type 0 where
@@ -47,8 +47,16 @@ pub record Registers : Type 0 where
   -- bank 2, offset D
   pub mask : ℕ
 
+-- Where the bytes of packets lie: in pages of 256 bytes, which packets take and give back; or "each packet in its own strip of 2,048 bytes", which is eight pages
+-- of its own (W3). Packet k of strips has the first of pages 8k to 8k + 7, so that its byte a lies at 2048k + a.
+pub data Layout : Type 0 where
+  paged : Layout
+  strips : Layout
+
 -- who has which page, and the three FIFOs of packet numbers, head first
 pub record Pool : Type 0 where
+  -- no step changes it
+  pub layout : Layout
   -- for each packet number its pages, [] where it is not allocated
   pub pages : List (List ℕ)
   pub rx : List ℕ
@@ -61,7 +69,12 @@ pub record Chip : Type 0 where
   -- the bytes of all pages
   pub memory : List ℕ
 
--- packets are numbered below it, and so are pages: 24
+-- pages are numbered below it on a chip of n packets: 24 pages, or 24 strips
+abbrev pub pageNumbers : Layout → ℕ → ℕ
+pageNumbers paged n = n
+pageNumbers strips n = 8 * n
+
+-- how many packets the chip has, and how many pages in all they may have: 24
 abbrev pub size : Chip → ℕ
 size c = length (c .pool .pages)
 
@@ -69,9 +82,15 @@ size c = length (c .pool .pages)
 abbrev pub pagesAt : Chip → ℕ → List ℕ
 pagesAt c k = getD (c .pool .pages) k []
 
--- the free pages, in ascending order
+-- the pages that are there for the next packet, in the order in which it takes them: as many as are free
+abbrev pub freeFor : Layout → List (List ℕ) → List ℕ
+-- those that no packet has, in ascending order
+freeFor paged ls = freeBelow (length ls) ls
+-- "of pages only how many are free and how many each packet has, 24 in sum": so many, from the first of the strip on whose number comes next (a packet takes at most eight)
+freeFor strips ls = upFrom (8 * firstEmpty ls) (length ls - total ls)
+
 abbrev pub free : Chip → List ℕ
-free c = freeBelow (size c) (c .pool .pages)
+free c = freeFor (c .pool .layout) (c .pool .pages)
 
 -- a packet is allocated where it has pages
 abbrev pub allocated : ℕ → Chip → Bool
@@ -89,12 +108,16 @@ resetRegisters station = record {
 }
 
 -- "no packets, FIFOs empty"
-abbrev pub emptyPool : ℕ → Pool
-emptyPool n = record { pages = replicate n []; rx = []; tx = []; completion = [] }
+abbrev pub emptyPool : Layout → ℕ → Pool
+emptyPool l n = record { layout = l; pages = replicate n []; rx = []; tx = []; completion = [] }
 
--- power-up of a part with n pages: "the memory is 6,144 zero bytes"
-abbrev pub powered : ℕ → Chip
-powered n = record { regs = resetRegisters (replicate 6 0); pool = emptyPool n; memory = replicate (256 * n) 0 }
+-- power-up of a part with n packets: "the memory is 6,144 zero bytes", or 49,152
+abbrev pub powered : Layout → ℕ → Chip
+powered l n = record { regs = resetRegisters (replicate 6 0); pool = emptyPool l n; memory = replicate (256 * pageNumbers l n) 0 }
 
+-- the chip of document 01, and the one of strips
 abbrev pub powerUp : Chip
-powerUp = powered 24
+powerUp = powered paged 24
+
+abbrev pub stripsUp : Chip
+stripsUp = powered strips 24

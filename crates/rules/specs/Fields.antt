@@ -63,16 +63,16 @@ abbrev pub setMask : ℕ → Registers → Registers
 setMask x r = record { sending = r .sending; receiving = r .receiving; numbers = r .numbers; pointer = r .pointer; control = r .control; mask = x }
 
 abbrev pub setPages : List (List ℕ) → Pool → Pool
-setPages x q = record { pages = x; rx = q .rx; tx = q .tx; completion = q .completion }
+setPages x q = record { layout = q .layout; pages = x; rx = q .rx; tx = q .tx; completion = q .completion }
 
 abbrev pub setRx : List ℕ → Pool → Pool
-setRx x q = record { pages = q .pages; rx = x; tx = q .tx; completion = q .completion }
+setRx x q = record { layout = q .layout; pages = q .pages; rx = x; tx = q .tx; completion = q .completion }
 
 abbrev pub setTx : List ℕ → Pool → Pool
-setTx x q = record { pages = q .pages; rx = q .rx; tx = x; completion = q .completion }
+setTx x q = record { layout = q .layout; pages = q .pages; rx = q .rx; tx = x; completion = q .completion }
 
 abbrev pub setCompletion : List ℕ → Pool → Pool
-setCompletion x q = record { pages = q .pages; rx = q .rx; tx = q .tx; completion = x }
+setCompletion x q = record { layout = q .layout; pages = q .pages; rx = q .rx; tx = q .tx; completion = x }
 
 -- a change of the registers, of the pool or of the memory, and of nothing else
 abbrev pub inRegisters : (Registers → Registers) → Chip → Chip

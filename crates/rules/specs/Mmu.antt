@@ -84,7 +84,7 @@ perform nothing c = did c
 -- "20h to 27h allocate 1 to 8 pages: done exactly when that many are free, else the result reads 80h (command still answers 0)."; "A new allocate command replaces a waiting one"
 perform (allocate n) c = cond (leb n (length (free c))) (did (grant n c)) (did (pend n c))
 -- "40h frees all pages, empties all FIFOs, sets the result to 80h."; "40h and a soft reset drop it"
-perform reset c = did (inRegisters (λ r. setWaiting 0 (setResult 0x80 r)) (inPool (λ q. emptyPool (size c)) c))
+perform reset c = did (inRegisters (λ r. setWaiting 0 (setResult 0x80 r)) (inPool (λ q. emptyPool (c .pool .layout) (size c)) c))
 -- "60h removes the RX head"
 perform removeRx c = ifHead c (c .pool .rx) (λ k ks. did (inPool (setRx ks) c))
 -- "80h removes and releases it"

@@ -114,7 +114,7 @@ headOf (k ∷ ks) = k
 
 -- "resets everything except the station address and packet memory; RCR then reads 8000h"
 abbrev pub softReset : Chip → Chip
-softReset c = record { regs = setRcr 0x8000 (resetRegisters (c .regs .receiving .station)); pool = emptyPool (size c); memory = c .memory }
+softReset c = record { regs = setRcr 0x8000 (resetRegisters (c .regs .receiving .station)); pool = emptyPool (c .pool .layout) (size c); memory = c .memory }
 
 -- "RCR bit 0 (RX_ABORT) can only be cleared by a write, never set."
 unfoldable pub newRcr : Lanes → ℕ → ℕ → ℕ

@@ -27,7 +27,7 @@ serve (driver a) c = leaving [] (access a c)
 serve (frame f) c = leaving [] (arrive f c)
 serve (sent s out) c = finish s c out
 
--- on any chip: refusal 16 is first, whatever the input; n is the part's number of pages
+-- on any chip: refusal 16 is first, whatever the input; n is the part's number of packets
 unfoldable pub stepOf : ℕ → Input → Chip → Turn
 stepOf n i c = cond (not (fit n c)) (refused 16 c (lent i)) (serve i c)
 

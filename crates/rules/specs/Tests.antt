@@ -2,11 +2,11 @@
 -- each test true exactly where its clause holds.
 use mathlib.Core.Bool.{Bool, true, not, _&&_, _||_}
 use mathlib.Core.List.{List, [], _∷_}
-use Prim.Native.Nat.{ℕ, _*_}
+use Prim.Native.Nat.{ℕ, suc, _*_}
 use lib.Dec.{eqb, leb, ltb}
 use lib.ListN.{length, getD}
-use Rattle.rules.specs.Lists.{member, some?, owned, freeBelow}
-use Rattle.rules.specs.Chip.{Numbers, Pool, Chip}
+use Rattle.rules.specs.Lists.{member, some?, owned, total, upFrom}
+use Rattle.rules.specs.Chip.{Numbers, Layout, paged, strips, Pool, Chip, pageNumbers, freeFor}
 
 unfoldable pub above : ℕ → List ℕ → Bool
 above x [] = true
@@ -34,6 +34,20 @@ unfoldable pub pagesGood : ℕ → List (List ℕ) → Bool
 pagesGood n [] = true
 pagesGood n (l ∷ ls) = ascends l && allBelow n l && leb (length l) 8 && noneOwned l ls && pagesGood n ls
 
+-- are these the numbers from x on
+unfoldable pub goesUp : ℕ → List ℕ → Bool
+goesUp x [] = true
+goesUp x (y ∷ ys) = eqb y x && goesUp (suc x) ys
+
+-- from packet k on: are the pages of each the first of its own eight
+unfoldable pub ownGood : ℕ → List (List ℕ) → Bool
+ownGood k [] = true
+ownGood k (l ∷ ls) = goesUp (8 * k) l && ownGood (suc k) ls
+
+unfoldable pub laidGood : Layout → ℕ → List (List ℕ) → Bool
+laidGood paged n ls = true
+laidGood strips n ls = ownGood 0 ls && leb (total ls) n
+
 -- are the entries allocated and distinct
 unfoldable pub queueGood : List ℕ → List (List ℕ) → Bool
 queueGood [] ls = true
@@ -51,9 +65,9 @@ requestGood freePages r = eqb (r .waiting) 0 || (leb (r .waiting) 8 && ltb freeP
 
 unfoldable pub formed : ℕ → Chip → Bool
 formed n c =
-    eqb (length (c .pool .pages)) n && pagesGood n (c .pool .pages) && numbersGood n (c .regs .numbers) && queuesGood n (c .pool)
-    && requestGood (length (freeBelow n (c .pool .pages))) (c .regs .numbers)
+    eqb (length (c .pool .pages)) n && pagesGood (pageNumbers (c .pool .layout) n) (c .pool .pages) && laidGood (c .pool .layout) n (c .pool .pages)
+    && numbersGood n (c .regs .numbers) && queuesGood n (c .pool) && requestGood (length (freeFor (c .pool .layout) (c .pool .pages))) (c .regs .numbers)
 
 -- refusal 16: the memory's length, and a state that is well formed
 unfoldable pub fit : ℕ → Chip → Bool
-fit n c = eqb (length (c .memory)) (256 * n) && formed n c
+fit n c = eqb (length (c .memory)) (256 * pageNumbers (c .pool .layout) n) && formed n c

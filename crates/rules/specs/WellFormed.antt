@@ -1,12 +1,12 @@
--- Document 01: "A chip state is well formed exactly when ..", a field for each clause; and document 02, W1. Stated for n pages and packets; the chip of document 01 has 24.
+-- Document 01: "A chip state is well formed exactly when ..", a field for each clause; and document 02, W1 and W3. Stated for n packets; the chip of document 01 has 24, and as many pages.
 use mathlib.Core.Bool.{true, false}
 use mathlib.Core.Path.{_≡_}
 use mathlib.Core.Logic.{_⊎_}
 use mathlib.Core.List.{List, [], _∷_}
-use Prim.Native.Nat.{ℕ, _<_, _≤_}
+use Prim.Native.Nat.{ℕ, _*_, _<_, _≤_}
 use lib.ListN.{length, getD}
-use Rattle.rules.specs.Lists.{member, some?, freeBelow}
-use Rattle.rules.specs.Chip.{Numbers, Registers, Pool, Chip}
+use Rattle.rules.specs.Lists.{member, some?, total, upFrom}
+use Rattle.rules.specs.Chip.{Numbers, Registers, Layout, paged, strips, Pool, Chip, pageNumbers, freeFor}
 
 -- each number is above the one before it, and the first above x
 abbrev pub Above : ℕ → List ℕ → Type 0
@@ -22,7 +22,7 @@ abbrev pub Distinct : List ℕ → Type 0
 Distinct [] = Unit {0}
 Distinct (x ∷ xs) = (member x xs ≡ false) × Distinct xs
 
--- what holds of the page lists
+-- what holds of the page lists, of pages below n
 pub record GoodPages (n : ℕ) (ls : List (List ℕ)) : Type 0 where
   -- "no page is in two packets"
   pub once : (i j p : ℕ) → member p (getD ls i []) ≡ true → member p (getD ls j []) ≡ true → i ≡ j
@@ -32,6 +32,18 @@ pub record GoodPages (n : ℕ) (ls : List (List ℕ)) : Type 0 where
   pub within : (i p : ℕ) → member p (getD ls i []) ≡ true → p < n
   -- "an allocated packet has 1 to 8 and any other none": it is allocated where it has some
   pub atMost : (i : ℕ) → length (getD ls i []) ≤ 8
+
+-- what holds of strips beside it, and "these numbers for page lists" (W3)
+pub record GoodStrips (n : ℕ) (ls : List (List ℕ)) : Type 0 where
+  -- "each packet in its own strip": its pages are the first of its own eight
+  pub own : (k : ℕ) → getD ls k [] ≡ upFrom (8 * k) (length (getD ls k []))
+  -- "how many are free and how many each packet has, 24 in sum": packets have no more
+  pub sum : total ls ≤ n
+
+-- what the layout asks of the page lists
+abbrev pub Laid : Layout → ℕ → List (List ℕ) → Type 0
+Laid paged n ls = Unit {0}
+Laid strips n ls = GoodStrips n ls
 
 -- what holds of the queues, beside the page lists
 pub record GoodQueues (n : ℕ) (ls : List (List ℕ)) (rx tx completion : List ℕ) : Type 0 where
@@ -69,13 +81,14 @@ GoodRequest freePages r = (r .waiting ≡ 0) ⊎ Waits freePages (r .waiting) (r
 pub record Clauses (n : ℕ) (r : Numbers) (q : Pool) : Type 0 where
   -- "Packets are numbered 0 to 23": a page list for each
   pub count : length (q .pages) ≡ n
-  pub pages : GoodPages n (q .pages)
+  pub pages : GoodPages (pageNumbers (q .layout) n) (q .pages)
+  pub laid : Laid (q .layout) n (q .pages)
   pub numbers : GoodNumbers n r
   pub queues : GoodQueues n (q .pages) (q .rx) (q .tx) (q .completion)
   -- "A state with a waiting request is well formed only if .."
-  pub request : GoodRequest (length (freeBelow n (q .pages))) r
+  pub request : GoodRequest (length (freeFor (q .layout) (q .pages))) r
 
--- the clauses of registers and pool; of a chip with n pages; of the chip of document 01
+-- the clauses of registers and pool; of a chip with n packets; of one with 24
 abbrev pub Formed : ℕ → Registers → Pool → Type 0
 Formed n r q = Clauses n (r .numbers) q
 

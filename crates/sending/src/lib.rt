@@ -8,10 +8,19 @@ mod after; // after.rt: the registers and TX after it
 mod completion; // completion.rt: what becomes of the packet
 mod finish; // finish.rt: all of it, with its refusals
 
+pub use after::after_send;
+pub use completion::is_full;
+pub use completion::is_released;
+pub use event::is_good;
+pub use event::is_within;
 pub use finish::finished;
+pub use output::LEAST_COUNT;
+pub use output::is_past;
+pub use output::pad_out;
+pub use output::send_length;
 
 // How a send ended, as its input says; `sendOf` gives the rules' record of it.
-struct Send {
+pub struct Send {
     pub outcome: u8,
     pub collisions: u8,
     pub deferral: u8,

@@ -5,9 +5,9 @@ use state::flags;
 ghost use mathlib.Core.Path.{_≡_};
 ghost use Prim.Native.Nat.{_+_, _-_, _*_, _≤_};
 ghost use lib.Dec.{ltb};
-ghost use lib.ListN.{length, replicate};
+ghost use lib.ListN.{length, take, replicate};
 ghost use lib.Seq.{sets};
-ghost use Rattle.rules.specs.Send.{sendLength, putOut};
+ghost use Rattle.rules.specs.Send.{sendLength, padded, putOut};
 ghost use Rattle.sets.specs.Views.{pagesOf};
 ghost use Rattle.packet.specs.Room.{Room};
 ghost use Rattle.sending.specs.Sends.{PutsOut};
@@ -27,7 +27,7 @@ pub fn is_past(count: u16, pages: u32) -> bool
 }
 
 // c - 5 bytes if ODD is set in the control byte, which is at c - 1, else c - 6.
-fn send_length(count: u16, control: u8) -> usize
+pub fn send_length(count: u16, control: u8) -> usize
     requires { ⌜ 6 ≤ count ⌝ }
     ensures { λ r. ⌜ (r ≡ sendLength count control) × (r + 5 ≤ count) ⌝ }
 {
@@ -49,14 +49,11 @@ fn pad(out: &mut [u8], from: usize)
     }
 }
 
-// Puts the data out, padded with PAD_EN, and says how long it is.
-pub fn put_out(memory: &[u8], pages: u32, tcr: u16, count: u16, out: &mut [u8]) -> u16
-    requires { ⌜ (12 ≤ count) × (count ≤ 2048) × (2048 ≤ length (now out)) × Room count pages (now memory) ⌝ }
-    ensures { λ r. ⌜ PutsOut (putOut tcr count (pagesOf pages) (now (memory .entry))) (now (out .entry)) (now (out .exit)) r ⌝ }
+// Pads the data with PAD_EN, and says how long it is then. It stands at the front of the buffer.
+pub fn pad_out(tcr: u16, len: usize, out: &mut [u8]) -> u16
+    requires { ⌜ (len ≤ 2048) × (2048 ≤ length (now out)) ⌝ }
+    ensures { λ r. ⌜ PutsOut (padded tcr (take len (now (out .entry)))) (now (out .entry)) (now (out .exit)) r ⌝ }
 {
-    let control = packet::read_byte(memory, pages, Address(count - 1));
-    let len = send_length(count, control);
-    packet::copy_out(memory, pages, len, out);
     if !bits::is_set(tcr, flags::PAD_EN) {
         return len as u16;
     }
@@ -66,4 +63,15 @@ pub fn put_out(memory: &[u8], pages: u32, tcr: u16, count: u16, out: &mut [u8]) 
     } else {
         len as u16
     }
+}
+
+// Puts the data out, padded with PAD_EN, and says how long it is.
+pub fn put_out(memory: &[u8], pages: u32, tcr: u16, count: u16, out: &mut [u8]) -> u16
+    requires { ⌜ (12 ≤ count) × (count ≤ 2048) × (2048 ≤ length (now out)) × Room count pages (now memory) ⌝ }
+    ensures { λ r. ⌜ PutsOut (putOut tcr count (pagesOf pages) (now (memory .entry))) (now (out .entry)) (now (out .exit)) r ⌝ }
+{
+    let control = packet::read_byte(memory, pages, Address(count - 1));
+    let len = send_length(count, control);
+    packet::copy_out(memory, pages, len, out);
+    pad_out(tcr, len, out)
 }

@@ -8,7 +8,7 @@ use native.Mathlib.Omega.{arith}
 use lib.ListN.{set, replicate}
 use Rattle.rules.specs.Bits.{bit, flag, wordOf}
 use Rattle.rules.specs.Lists.{member, some?, owned, unless, freeBelow}
-use Rattle.rules.specs.Tests.{above, ascends, allBelow, apart, noneOwned, pagesGood, queueGood, queuesGood, numbersGood, requestGood, formed}
+use Rattle.rules.specs.Tests.{above, ascends, allBelow, apart, noneOwned, pagesGood, laidGood, queueGood, queuesGood, numbersGood, requestGood, formed}
 use Rattle.rules.specs.Step.{Input}
 use Rattle.lists.specs.Each.{each-at}
 use Rattle.wellformed.specs.Fit.{below-decides, formed-decides}
@@ -51,7 +51,7 @@ small i = each-at (λ x. x < 2 ^ 32) sets i 0 (below-decides (2 ^ 32) sets .soun
 
 -- and it is in order
 pub ready : Ready words sets queues
-unfolding formed pagesGood ascends above allBelow noneOwned queuesGood queueGood apart numbersGood requestGood some? flag pagesOf bitsBelow bit freeBelow owned member unless wordOf setOf
+unfolding formed pagesGood laidGood ascends above allBelow noneOwned queuesGood queueGood apart numbersGood requestGood some? flag pagesOf bitsBelow bit freeBelow owned member unless wordOf setOf
 ready = record {
   sound = record {
     kept = record {
@@ -130,11 +130,11 @@ not-formed w s q e o = true≢false (sym (formed-decides 24 (view w s q []) .com
 
 -- an allocation waits for 8 pages although 21 are free; for 22, more than are free but also more than any command asks for
 pub waits-in-vain : Gets16 23 8
-unfolding formed pagesGood ascends above allBelow noneOwned queuesGood queueGood apart numbersGood requestGood some? flag pagesOf bitsBelow bit freeBelow owned member unless wordOf setOf
+unfolding formed pagesGood laidGood ascends above allBelow noneOwned queuesGood queueGood apart numbersGood requestGood some? flag pagesOf bitsBelow bit freeBelow owned member unless wordOf setOf
 waits-in-vain = refused 23 8 (not-formed (set words 23 8) sets queues refl)
 
 pub waits-for-22 : Gets16 23 22
-unfolding formed pagesGood ascends above allBelow noneOwned queuesGood queueGood apart numbersGood requestGood some? flag pagesOf bitsBelow bit freeBelow owned member unless wordOf setOf
+unfolding formed pagesGood laidGood ascends above allBelow noneOwned queuesGood queueGood apart numbersGood requestGood some? flag pagesOf bitsBelow bit freeBelow owned member unless wordOf setOf
 waits-for-22 = refused 23 22 (not-formed (set words 23 22) sets queues refl)
 
 -- Packets 0, 1 and 2 have all pages, and an allocation waits for one: with the result at 80h that may be, and with another it may not.
@@ -147,9 +147,9 @@ abbrev fullSets : List ℕ
 fullSets = 0xff ∷ 0xff00 ∷ 0xff0000 ∷ replicate 21 0
 
 pub may-wait : formed 24 (view (fullWords 0x8000) fullSets (replicate 72 0) []) ≡ true
-unfolding formed pagesGood ascends above allBelow noneOwned queuesGood queueGood apart numbersGood requestGood some? flag pagesOf bitsBelow bit freeBelow owned member unless wordOf setOf
+unfolding formed pagesGood laidGood ascends above allBelow noneOwned queuesGood queueGood apart numbersGood requestGood some? flag pagesOf bitsBelow bit freeBelow owned member unless wordOf setOf
 may-wait = refl
 
 pub waits-with-a-result : Refused (fullWords 0x0200) fullSets (replicate 72 0)
-unfolding formed pagesGood ascends above allBelow noneOwned queuesGood queueGood apart numbersGood requestGood some? flag pagesOf bitsBelow bit freeBelow owned member unless wordOf setOf
+unfolding formed pagesGood laidGood ascends above allBelow noneOwned queuesGood queueGood apart numbersGood requestGood some? flag pagesOf bitsBelow bit freeBelow owned member unless wordOf setOf
 waits-with-a-result = gets-16 (fullWords 0x0200) fullSets (replicate 72 0) (not-formed (fullWords 0x0200) fullSets (replicate 72 0) refl)

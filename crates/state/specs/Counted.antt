@@ -7,24 +7,24 @@ use Prim.Native.Nat.{ℕ, _+_, _*_, _/_, _<_}
 use native.Mathlib.Omega.{arith}
 use lib.ListN.{length}
 use Rattle.rules.specs.Bits.{bit, wordOf}
-use Rattle.rules.specs.Lists.{member, freeBelow}
-use Rattle.rules.specs.Chip.{Pool, free}
+use Rattle.rules.specs.Lists.{member}
+use Rattle.rules.specs.Chip.{Layout, Pool, freeFor, free}
 use Rattle.rules.specs.Mmu.{queued}
 use Rattle.sets.specs.Members.{setOf, set-members}
-use Rattle.state.specs.View.{word, figures, rxBits, txBits, poolIn, view}
-use Rattle.state.specs.Promise.{Halves, Sound}
-use Rattle.state.specs.Entry.{InOrder}
+use Rattle.state.specs.View.{word, figures, rxBits, txBits, poolOf, viewOf}
+use Rattle.state.specs.Promise.{Halves, SoundOf}
+use Rattle.state.specs.Entry.{InOrderOf}
 
 -- the figures c are those of the pool
 pub record FullCount (c : List ℕ) (p : Pool) : Type 0 where
   pub rx : word c 0 ≡ length (p .rx)
   pub tx : word c 1 ≡ length (p .tx)
   pub completion : word c 2 ≡ length (p .completion)
-  pub mir : word c 3 ≡ wordOf 24 (length (freeBelow 24 (p .pages)))
+  pub mir : word c 3 ≡ wordOf 24 (length (freeFor (p .layout) (p .pages)))
   pub inRx : Halves (word c 4) (word c 5) (setOf (p .rx))
   pub inTx : Halves (word c 6) (word c 7) (setOf (p .tx))
 
-pub full-count : {w s q : List ℕ} → Sound w s q → FullCount (figures w) (poolIn (figures w) s q)
+pub full-count : {l : Layout} {w s q : List ℕ} → SoundOf l w s q → FullCount (figures w) (poolOf l (figures w) s q)
 full-count o = record {
   rx = o .queues .rx .many;
   tx = o .queues .tx .many;
@@ -42,22 +42,20 @@ pub halves : (low high x : ℕ) → low < 65536 → low + high * 65536 ≡ x →
 halves low high x h e = record { lower = omega (arith, h, e); upper = omega (arith, h, e) }
 
 -- Figure by figure, as document 01 counts.
-module _ {w s q mem : List ℕ} (o : InOrder w s q mem) where
-  abbrev sound : Sound w s q
+module _ {l : Layout} {w s q mem : List ℕ} (o : InOrderOf l w s q mem) where
+  abbrev sound : SoundOf l w s q
   sound = o .ready .sound
 
-  pub free-kept : word w 4 / 256 ≡ length (free (view w s q mem))
+  pub free-kept : word w 4 / 256 ≡ length (free (viewOf l w s q mem))
   unfolding wordOf
-  free-kept =
-      let size = ap (λ (n : ℕ). length (freeBelow n (view w s q mem .pool .pages))) (o .ready .well .count) in
-      omega (arith, sound .sets .free, size)
+  free-kept = omega (arith, sound .sets .free)
 
-  pub rx-kept : (k : ℕ) → bit k (rxBits w) ≡ member k (view w s q mem .pool .rx)
-  rx-kept k = ap (bit k) (whole (sound .queues .inRx)) ∙ set-members (view w s q mem .pool .rx) (o .ready .well .queues .rxDistinct) k
+  pub rx-kept : (k : ℕ) → bit k (rxBits w) ≡ member k (viewOf l w s q mem .pool .rx)
+  rx-kept k = ap (bit k) (whole (sound .queues .inRx)) ∙ set-members (viewOf l w s q mem .pool .rx) (o .ready .well .queues .rxDistinct) k
 
-  pub tx-kept : (k : ℕ) → bit k (txBits w) ≡ member k (view w s q mem .pool .tx)
-  tx-kept k = ap (bit k) (whole (sound .queues .inTx)) ∙ set-members (view w s q mem .pool .tx) (o .ready .well .queues .txDistinct) k
+  pub tx-kept : (k : ℕ) → bit k (txBits w) ≡ member k (viewOf l w s q mem .pool .tx)
+  tx-kept k = ap (bit k) (whole (sound .queues .inTx)) ∙ set-members (viewOf l w s q mem .pool .tx) (o .ready .well .queues .txDistinct) k
 
   -- so refusal 6 is told by two bits
-  pub queued-kept : (k : ℕ) → bit k (rxBits w) || bit k (txBits w) ≡ queued k (view w s q mem)
+  pub queued-kept : (k : ℕ) → bit k (rxBits w) || bit k (txBits w) ≡ queued k (viewOf l w s q mem)
   queued-kept k = ap₂ _||_ (rx-kept k) (tx-kept k)

@@ -1,24 +1,23 @@
 -- Whether a record is in order is decided: field by field, each by an equation between numbers or lists, a comparison, or a test of the rules.
 use mathlib.Core.Path.{refl, sym}
 use mathlib.Core.Bool.{Bool, true, false, true≢false}
-use mathlib.Core.List.{List, [], _∷_, _++_, map, List-discrete}
+use mathlib.Core.List.{List, [], _∷_, _++_, List-discrete}
 use Prim.Native.Nat.{ℕ, suc, _+_, _*_, _-_, _/_, _%_, _^_, _<_}
 use native.Mathlib.Omega.{arith}
 use native.Mathlib.Decide.{ℕ-discrete, decLe}
 use lib.ListN.{length, replicate}
 use Rattle.rules.specs.Bits.{bit, flag, wordOf}
-use Rattle.rules.specs.Lists.{freeBelow}
+use Rattle.rules.specs.Chip.{Layout, pageNumbers, freeFor}
 use Rattle.rules.specs.Tests.{allBelow, formed}
 use Rattle.lists.specs.Facts.{Decides}
 use Rattle.lists.specs.Each.{Each, each-at}
 use Rattle.wellformed.specs.Fit.{below-decides, formed-decides}
-use Rattle.sets.specs.Views.{pagesOf}
 use Rattle.sets.specs.Members.{setOf}
 use Rattle.queues.specs.Slots.{Slots}
 use Rattle.queues.specs.Parts.{slots}
-use Rattle.state.specs.View.{word, figures, queueIn, view, Fixed, Blank, Kept}
-use Rattle.state.specs.Promise.{Halves, QueuesIn, Small, SetsIn, Sound, Ready}
-use Rattle.state.specs.Entry.{InOrder}
+use Rattle.state.specs.View.{word, figures, queueIn, listsOf, viewOf, Fixed, Blank, Kept}
+use Rattle.state.specs.Promise.{Halves, QueuesIn, Small, PagesIn, SoundOf, ReadyOf}
+use Rattle.state.specs.Entry.{InOrderOf}
 
 -- What asks for P is decided by P first: where P does not hold it does not, and where P holds the rest decides.
 asks : {P Q : Type 0} → (Q → P) → Dec P → (P → Dec Q) → Dec Q
@@ -81,23 +80,23 @@ small-each (x ∷ xs) h = (h 0, small-each xs (λ i. h (suc i)))
 small? : (s : List ℕ) → Dec (Small s)
 small? s = asks (small-each s) (tested (allBelow (2 ^ 32) s) (below-decides (2 ^ 32) s)) (λ e. yes (λ i. each-at (λ x. x < 2 ^ 32) s i 0 e (omega arith)))
 
-sets? : (c s : List ℕ) → Dec (SetsIn c s)
-sets? c s =
+pages? : (l : Layout) (c s : List ℕ) → Dec (PagesIn l c s)
+pages? l c s =
     asks (λ x. x .many) (ℕ-discrete (length s) 24)
-    (λ a. asks (λ x. x .free) (ℕ-discrete (word c 3) (wordOf 24 (length (freeBelow 24 (map pagesOf s)))))
+    (λ a. asks (λ x. x .free) (ℕ-discrete (word c 3) (wordOf 24 (length (freeFor l (listsOf l s)))))
     (λ b. asks (λ x. x .small) (small? s) (λ d. yes (record { many = a; free = b; small = d }))))
 
 -- All of it, and with the memory.
-sound? : (w s q : List ℕ) → Dec (Sound w s q)
-sound? w s q =
+sound? : (l : Layout) (w s q : List ℕ) → Dec (SoundOf l w s q)
+sound? l w s q =
     asks (λ x. x .kept) (kept? w)
     (λ a. asks (λ x. x .queues) (queues? (figures w) q)
-    (λ b. asks (λ x. x .sets) (sets? (figures w) s) (λ c. yes (record { kept = a; queues = b; sets = c }))))
+    (λ b. asks (λ x. x .sets) (pages? l (figures w) s) (λ c. yes (record { kept = a; queues = b; sets = c }))))
 
-pub ready? : (w s q : List ℕ) → Dec (Ready w s q)
-ready? w s q =
-    let c = view w s q [] in
-    asks (λ x. x .sound) (sound? w s q) (λ a. asks (λ x. x .well) (tested (formed 24 c) (formed-decides 24 c)) (λ b. yes (record { sound = a; well = b })))
+pub ready? : (l : Layout) (w s q : List ℕ) → Dec (ReadyOf l w s q)
+ready? l w s q =
+    let c = viewOf l w s q [] in
+    asks (λ x. x .sound) (sound? l w s q) (λ a. asks (λ x. x .well) (tested (formed 24 c) (formed-decides 24 c)) (λ b. yes (record { sound = a; well = b })))
 
-pub decided : (w s q mem : List ℕ) → Dec (InOrder w s q mem)
-decided w s q mem = asks (λ x. x .ready) (ready? w s q) (λ a. asks (λ x. x .full) (ℕ-discrete (length mem) 6144) (λ b. yes (record { ready = a; full = b })))
+pub decided : (l : Layout) (w s q mem : List ℕ) → Dec (InOrderOf l w s q mem)
+decided l w s q mem = asks (λ x. x .ready) (ready? l w s q) (λ a. asks (λ x. x .full) (ℕ-discrete (length mem) (256 * pageNumbers l 24)) (λ b. yes (record { ready = a; full = b })))

@@ -1,8 +1,9 @@
 -- What a public entry of the chip promises, for any input: document 01's step where the record is in order, else refusal 16.
 use mathlib.Core.Path.{_≡_}
 use mathlib.Core.List.{List}
-use Prim.Native.Nat.{ℕ}
+use Prim.Native.Nat.{ℕ, _*_}
 use lib.ListN.{length}
+use Rattle.rules.specs.Chip.{Layout, paged, pageNumbers}
 use Rattle.rules.specs.Answers.{Turn}
 use Rattle.rules.specs.Step.{Input, lent, step}
 use Rattle.state.specs.declared.Answer.{Answer}
@@ -12,20 +13,27 @@ use Rattle.state.specs.declared.Pages.{Pages}
 use Rattle.state.specs.declared.Queues.{Queues}
 use Rattle.state.specs.declared.Returned.{Returned}
 use Rattle.state.specs.Meaning.{replyOf}
-use Rattle.state.specs.View.{view}
-use Rattle.state.specs.Promise.{Ready}
+use Rattle.state.specs.View.{viewOf, view}
+use Rattle.state.specs.Promise.{ReadyOf}
 
--- a state that stands for a well-formed chip, beside its 6,144 bytes
-pub record InOrder (w s q mem : List ℕ) : Type 0 where
-  pub ready : Ready w s q
-  pub full : length mem ≡ 6144
+-- a state that stands for a well-formed chip, beside its bytes
+pub record InOrderOf (l : Layout) (w s q mem : List ℕ) : Type 0 where
+  pub ready : ReadyOf l w s q
+  pub full : length mem ≡ 256 * pageNumbers l 24
 
 -- the answer a, and state, memory and output after it, are the turn t of the rules, and the state is in order again
-pub record Right (t : Turn) (a : Answer) (w s q mem out : List ℕ) : Type 0 where
-  pub chip : view w s q mem ≡ t .chip
+pub record RightOf (l : Layout) (t : Turn) (a : Answer) (w s q mem out : List ℕ) : Type 0 where
+  pub chip : viewOf l w s q mem ≡ t .chip
   pub reply : replyOf a ≡ t .reply
   pub output : out ≡ t .output
-  pub ready : InOrder w s q mem
+  pub ready : InOrderOf l w s q mem
+
+-- the same with page sets, and 6,144 bytes
+abbrev pub InOrder : List ℕ → List ℕ → List ℕ → List ℕ → Type 0
+InOrder = InOrderOf paged
+
+abbrev pub Right : Turn → Answer → List ℕ → List ℕ → List ℕ → List ℕ → List ℕ → Type 0
+Right = RightOf paged
 
 -- refusal 16, and nothing changes
 pub record Broken (r : Registers) (p : Pages) (f : Queues) (mem out : List ℕ) (x : Returned) (mem′ out′ : List ℕ) : Type 0 where

@@ -5,9 +5,10 @@ use Prim.Native.Nat.{ℕ, _+_, _*_, _/_, _%_, _<_}
 use native.Mathlib.Omega.{arith}
 use Rattle.rules.specs.Bits.{lowByte, highByte, wordOf, wordAt}
 use Rattle.rules.specs.Answers.{doneWith}
+use Rattle.rules.specs.Chip.{Layout}
 use Rattle.rules.specs.Registers.{Register, Lanes, low, high, both, TCR, EPHSR, RCR, RESERVED, STATION, CONTROL, COMMAND, PACKET, POINTER, TABLE, BANK, UNUSED, ABSENT, registerAt, taken, readRegister}
 use Rattle.state.specs.declared.Answer.the-variants.{Done, NotModelled}
-use Rattle.state.specs.View.{word, registersIn, view, Kept}
+use Rattle.state.specs.View.{word, registersIn, viewOf, Kept}
 use Rattle.state.specs.Promise.{Does}
 
 -- the register at place bank * 8 + offset / 2
@@ -30,8 +31,8 @@ halves : (x : ℕ) → x ≡ wordOf (x % 256) (x / 256)
 unfolding wordOf
 halves x = omega arith
 
-shows : (k : Register) (p : Lanes) (w : List ℕ) (x : ℕ) → Kept w → ((s q mem : List ℕ) → readRegister k p (view w s q mem) ≡ doneWith (taken p x) (view w s q mem)) → Shows k p w x
-shows k p w x h e = record { step = λ s q mem. sym (e s q mem); still = refl; kept = h }
+shows : (k : Register) (p : Lanes) (w : List ℕ) (x : ℕ) → Kept w → ((l : Layout) (s q mem : List ℕ) → readRegister k p (viewOf l w s q mem) ≡ doneWith (taken p x) (viewOf l w s q mem)) → Shows k p w x
+shows k p w x h e = record { step = λ l s q mem. sym (e l s q mem); still = refl; kept = h }
 
 taken-none : (p : Lanes) → taken p 0 ≡ 0
 unfolding taken lowByte highByte
@@ -42,78 +43,78 @@ taken-none both = refl
 module _ (p : Lanes) (w : List ℕ) (h : Kept w) where
   pub reads-tcr : Shows TCR p w (word w 0)
   unfolding readRegister
-  reads-tcr = shows TCR p w _ h (λ s q mem. refl)
+  reads-tcr = shows TCR p w _ h (λ l s q mem. refl)
 
   pub reads-ephsr : Shows EPHSR p w (word w 1)
   unfolding readRegister
-  reads-ephsr = shows EPHSR p w _ h (λ s q mem. refl)
+  reads-ephsr = shows EPHSR p w _ h (λ l s q mem. refl)
 
   pub reads-rcr : Shows RCR p w (word w 2)
   unfolding readRegister
-  reads-rcr = shows RCR p w _ h (λ s q mem. refl)
+  reads-rcr = shows RCR p w _ h (λ l s q mem. refl)
 
   pub reads-reserved : Shows RESERVED p w (word w 5)
   unfolding readRegister
-  reads-reserved = shows RESERVED p w _ h (λ s q mem. ap (λ (x : ℕ). doneWith (taken p x) (view w s q mem)) (sym (halves (word w 5) ∙ ap (wordOf (word w 5 % 256)) (h .fixed .reservedHigh))))
+  reads-reserved = shows RESERVED p w _ h (λ l s q mem. ap (λ (x : ℕ). doneWith (taken p x) (viewOf l w s q mem)) (sym (halves (word w 5) ∙ ap (wordOf (word w 5 % 256)) (h .fixed .reservedHigh))))
 
   pub reads-control : Shows CONTROL p w (word w 14)
   unfolding readRegister
-  reads-control = shows CONTROL p w _ h (λ s q mem. refl)
+  reads-control = shows CONTROL p w _ h (λ l s q mem. refl)
 
   pub reads-pointer : Shows POINTER p w (word w 19)
   unfolding readRegister
-  reads-pointer = shows POINTER p w _ h (λ s q mem. refl)
+  reads-pointer = shows POINTER p w _ h (λ l s q mem. refl)
 
   -- two bytes that stand in a word of their own
-  pair : (k : Register) (x : ℕ) → ((s q mem : List ℕ) → readRegister k p (view w s q mem) ≡ doneWith (taken p (wordOf (x % 256) (x / 256))) (view w s q mem)) → Shows k p w x
-  pair k x e = shows k p w x h (λ s q mem. rw (halves x) (e s q mem))
+  pair : (k : Register) (x : ℕ) → ((l : Layout) (s q mem : List ℕ) → readRegister k p (viewOf l w s q mem) ≡ doneWith (taken p (wordOf (x % 256) (x / 256))) (viewOf l w s q mem)) → Shows k p w x
+  pair k x e = shows k p w x h (λ l s q mem. rw (halves x) (e l s q mem))
 
   pub reads-packet : Shows PACKET p w (word w 17)
   unfolding readRegister wordAt
-  reads-packet = pair PACKET (word w 17) (λ s q mem. refl)
+  reads-packet = pair PACKET (word w 17) (λ l s q mem. refl)
 
   pub reads-station-0 : Shows (STATION 0) p w (word w 10)
   unfolding readRegister wordAt
-  reads-station-0 = pair (STATION 0) (word w 10) (λ s q mem. refl)
+  reads-station-0 = pair (STATION 0) (word w 10) (λ l s q mem. refl)
 
   pub reads-station-1 : Shows (STATION 1) p w (word w 11)
   unfolding readRegister wordAt
-  reads-station-1 = pair (STATION 1) (word w 11) (λ s q mem. refl)
+  reads-station-1 = pair (STATION 1) (word w 11) (λ l s q mem. refl)
 
   pub reads-station-2 : Shows (STATION 2) p w (word w 12)
   unfolding readRegister wordAt
-  reads-station-2 = pair (STATION 2) (word w 12) (λ s q mem. refl)
+  reads-station-2 = pair (STATION 2) (word w 12) (λ l s q mem. refl)
 
   pub reads-table-0 : Shows (TABLE 0) p w (word w 24)
   unfolding readRegister wordAt
-  reads-table-0 = pair (TABLE 0) (word w 24) (λ s q mem. refl)
+  reads-table-0 = pair (TABLE 0) (word w 24) (λ l s q mem. refl)
 
   pub reads-table-1 : Shows (TABLE 1) p w (word w 25)
   unfolding readRegister wordAt
-  reads-table-1 = pair (TABLE 1) (word w 25) (λ s q mem. refl)
+  reads-table-1 = pair (TABLE 1) (word w 25) (λ l s q mem. refl)
 
   pub reads-table-2 : Shows (TABLE 2) p w (word w 26)
   unfolding readRegister wordAt
-  reads-table-2 = pair (TABLE 2) (word w 26) (λ s q mem. refl)
+  reads-table-2 = pair (TABLE 2) (word w 26) (λ l s q mem. refl)
 
   pub reads-table-3 : Shows (TABLE 3) p w (word w 27)
   unfolding readRegister wordAt
-  reads-table-3 = pair (TABLE 3) (word w 27) (λ s q mem. refl)
+  reads-table-3 = pair (TABLE 3) (word w 27) (λ l s q mem. refl)
 
   pub reads-command : Shows COMMAND p w (word w 16)
   unfolding readRegister
-  reads-command = shows COMMAND p w _ h (λ s q mem. ap (λ (v : ℕ). doneWith v (view w s q mem)) (sym (ap (taken p) (h .blank .none16) ∙ taken-none p)))
+  reads-command = shows COMMAND p w _ h (λ l s q mem. ap (λ (v : ℕ). doneWith v (viewOf l w s q mem)) (sym (ap (taken p) (h .blank .none16) ∙ taken-none p)))
 
   pub reads-bank : Shows BANK p w (word w 7)
   unfolding readRegister
   reads-bank =
       let above : word w 7 / 256 ≡ 0x33 = omega (arith, h .fixed .bankHigh) in
-      shows BANK p w _ h (λ s q mem. ap (λ (x : ℕ). doneWith (taken p x) (view w s q mem)) (sym (halves (word w 7) ∙ ap (wordOf (word w 7 % 256)) above)))
+      shows BANK p w _ h (λ l s q mem. ap (λ (x : ℕ). doneWith (taken p x) (viewOf l w s q mem)) (sym (halves (word w 7) ∙ ap (wordOf (word w 7 % 256)) above)))
 
   pub reads-unused : Shows UNUSED p w 0x3333
   unfolding readRegister
-  reads-unused = shows UNUSED p w _ h (λ s q mem. refl)
+  reads-unused = shows UNUSED p w _ h (λ l s q mem. refl)
 
   pub reads-absent : Does (readRegister ABSENT p) w NotModelled w
   unfolding readRegister
-  reads-absent = record { step = λ s q mem. refl; still = refl; kept = h }
+  reads-absent = record { step = λ l s q mem. refl; still = refl; kept = h }

@@ -2,16 +2,16 @@
 -- from their entries. So there is only one result of a public entry, and of a step below one: two that meet its promise are equal.
 use mathlib.Core.Path.{_≡_, refl, ap, ap₂, sym, _∙_}
 use mathlib.Core.List.{List, [], _∷_, _++_, map}
-use Prim.Native.Nat.{ℕ, _+_, _*_, _-_, _/_, _%_, _<_}
+use Prim.Native.Nat.{ℕ, suc, _+_, _*_, _-_, _/_, _%_, _<_}
 use native.Mathlib.Omega.{arith}
 use lib.ListN.{length, getD, take, drop, replicate, take-append-drop, length-drop}
 use lib.Seq.{ext-getD, take-all, drop-drop}
 use Rattle.rules.specs.Bits.{flag, wordOf, wordAt}
-use Rattle.rules.specs.Lists.{freeBelow}
 use Rattle.rules.specs.Chip.{Chip}
 use Rattle.rules.specs.Chip as rules
 use Rattle.rules.specs.Answers.{Reply, Effect, Turn}
 use Rattle.rules.specs.Step.{Input}
+use Rattle.lists.specs.UpFrom.{length-up}
 use Rattle.sets.specs.Views.{pagesOf}
 use Rattle.sets.specs.Pages.{pages-one}
 use Rattle.sets.specs.Members.{setOf}
@@ -25,11 +25,11 @@ use Rattle.state.specs.declared.Pages.{Pages}
 use Rattle.state.specs.declared.Queues.{Queues}
 use Rattle.state.specs.declared.Returned.{Returned}
 use Rattle.state.specs.Meaning.{replyOf}
-use Rattle.state.specs.View.{word, registersIn, figures, queueIn, poolIn, view, FixedIn, BlankIn, Kept}
+use Rattle.state.specs.View.{word, registersIn, figures, queueIn, stripsFrom, listsOf, poolOf, viewOf, FixedIn, BlankIn, Kept}
 use Rattle.state.specs.Written.{Written, written-out}
-use Rattle.state.specs.Promise.{QueuesIn, Small, Sound, Makes, Sets, Does}
+use Rattle.state.specs.Promise.{QueuesIn, Small, SoundOf, MakesOf, Sets, Does}
 use Rattle.state.specs.Counted.{full-count}
-use Rattle.state.specs.Entry.{InOrderBy, Right, Answers}
+use Rattle.state.specs.Entry.{InOrderBy, RightOf, Answers}
 use Rattle.state.specs.Decided.{decided}
 
 -- The words of registers, and of figures beside them.
@@ -75,7 +75,7 @@ counts p =
     length (p .rx)
     ∷ length (p .tx)
     ∷ length (p .completion)
-    ∷ wordOf 24 (length (freeBelow 24 (p .pages)))
+    ∷ wordOf 24 (length (rules.freeFor (p .layout) (p .pages)))
     ∷ (setOf (p .rx) % 65536)
     ∷ (setOf (p .rx) / 65536)
     ∷ (setOf (p .tx) % 65536)
@@ -112,7 +112,7 @@ pub words-once : {w w′ : List ℕ} → Kept w → Kept w′ → registersIn w 
 words-once {w} {w′} k k′ r f = words-known w k ∙ ap₂ wordsWith r f ∙ sym (words-known w′ k′)
 
 -- and the figures of a sound state are counted from its pool
-figures-known : {w s q : List ℕ} → Sound w s q → figures w ≡ counts (poolIn (figures w) s q)
+figures-known : {l : rules.Layout} {w s q : List ℕ} → SoundOf l w s q → figures w ≡ counts (poolOf l (figures w) s q)
 figures-known o =
     let full = full-count o in
     λ i. full .rx i ∷ full .tx i ∷ full .completion i ∷ full .mir i ∷ full .inRx .lower i ∷ full .inRx .upper i ∷ full .inTx .lower i ∷ full .inTx .upper i ∷ []
@@ -144,9 +144,21 @@ sets-known s t f g e =
     ext-getD 0 s t (sym (lists-length s) ∙ ap length e ∙ lists-length t)
     (λ i h. pages-one (getD s i 0) (getD t i 0) (f i) (g i) (sym (list-at s i) ∙ ap (λ (l : List (List ℕ)). getD l i []) e ∙ list-at t i))
 
+-- And counts from the strips.
+pub strips-known : (k : ℕ) (s t : List ℕ) → stripsFrom k s ≡ stripsFrom k t → s ≡ t
+strips-known k [] [] e = refl
+strips-known k [] (y ∷ t) e = absurd (omega (arith, ap length e))
+strips-known k (x ∷ s) [] e = absurd (omega (arith, ap length e))
+strips-known k (x ∷ s) (y ∷ t) e =
+    ap₂ _∷_ (sym (length-up (8 * k) x) ∙ ap (λ (l : List (List ℕ)). length (getD l 0 [])) e ∙ length-up (8 * k) y) (strips-known (suc k) s t (ap (drop 1) e))
+
+pub numbers-known : (l : rules.Layout) (s t : List ℕ) → Small s → Small t → listsOf l s ≡ listsOf l t → s ≡ t
+numbers-known rules.paged s t f g e = sets-known s t f g e
+numbers-known rules.strips s t f g e = strips-known 0 s t e
+
 -- The view is one-to-one on sound states.
-module _ {w s q mem w′ s′ q′ mem′ : List ℕ} (a : Sound w s q) (b : Sound w′ s′ q′) (e : view w s q mem ≡ view w′ s′ q′ mem′) where
-  of : {A : Type 0} (h : Chip → A) → h (view w s q mem) ≡ h (view w′ s′ q′ mem′)
+module _ {l : rules.Layout} {w s q mem w′ s′ q′ mem′ : List ℕ} (a : SoundOf l w s q) (b : SoundOf l w′ s′ q′) (e : viewOf l w s q mem ≡ viewOf l w′ s′ q′ mem′) where
+  of : {A : Type 0} (h : Chip → A) → h (viewOf l w s q mem) ≡ h (viewOf l w′ s′ q′ mem′)
   of h = ap h e
 
   same-words : w ≡ w′
@@ -159,7 +171,7 @@ module _ {w s q mem w′ s′ q′ mem′ : List ℕ} (a : Sound w s q) (b : Sou
       ∙ sym (queues-known (figures w′) q′ (b .queues))
 
   pub one-state : (w ≡ w′) × (s ≡ s′) × (q ≡ q′) × (mem ≡ mem′)
-  one-state = (same-words, sets-known s s′ (a .sets .small) (b .sets .small) (of (λ c. c .pool .pages)), same-queues, of (λ c. c .memory))
+  one-state = (same-words, numbers-known l s s′ (a .sets .small) (b .sets .small) (of (λ c. c .pool .pages)), same-queues, of (λ c. c .memory))
 
 -- Answers are known from their replies.
 answerOf : Reply → Answer
@@ -214,18 +226,18 @@ pub one-answer : (a b : Answer) → replyOf a ≡ replyOf b → a ≡ b
 one-answer a b e = sym (answer-back a) ∙ ap answerOf e ∙ answer-back b
 
 -- Of a step below a public entry there is one result too: of the effect e, of the turn t, of a step that looks at the registers alone, of a change of the registers.
-module _ {a a′ : Answer} {w s q mem w′ s′ q′ mem′ : List ℕ} where
-  pub makes-once : {e : Effect} → Makes e a w s q mem → Makes e a′ w′ s′ q′ mem′ → (a ≡ a′) × (w ≡ w′) × (s ≡ s′) × (q ≡ q′) × (mem ≡ mem′)
+module _ {l : rules.Layout} {a a′ : Answer} {w s q mem w′ s′ q′ mem′ : List ℕ} where
+  pub makes-once : {e : Effect} → MakesOf l e a w s q mem → MakesOf l e a′ w′ s′ q′ mem′ → (a ≡ a′) × (w ≡ w′) × (s ≡ s′) × (q ≡ q′) × (mem ≡ mem′)
   makes-once x y = let e = one-state (x .sound) (y .sound) (x .chip ∙ sym (y .chip)) in (one-answer a a′ (x .reply ∙ sym (y .reply)), e .0, e .1, e .2, e .3)
 
-  pub right-once : {t : Turn} {out out′ : List ℕ} → Right t a w s q mem out → Right t a′ w′ s′ q′ mem′ out′ → (a ≡ a′) × (w ≡ w′) × (s ≡ s′) × (q ≡ q′) × (mem ≡ mem′) × (out ≡ out′)
+  pub right-once : {t : Turn} {out out′ : List ℕ} → RightOf l t a w s q mem out → RightOf l t a′ w′ s′ q′ mem′ out′ → (a ≡ a′) × (w ≡ w′) × (s ≡ s′) × (q ≡ q′) × (mem ≡ mem′) × (out ≡ out′)
   right-once x y =
       let e = one-state (x .ready .ready .sound) (y .ready .ready .sound) (x .chip ∙ sym (y .chip)) in
       (one-answer a a′ (x .reply ∙ sym (y .reply)), e .0, e .1, e .2, e .3, x .output ∙ sym (y .output))
 
 pub does-once : {f : Chip → Effect} {w w₁ w₂ : List ℕ} {a b : Answer} → Does f w a w₁ → Does f w b w₂ → (a ≡ b) × (w₁ ≡ w₂)
 does-once {a = a} {b = b} x y =
-    let e = x .step [] [] [] ∙ sym (y .step [] [] []) in
+    let e = x .step rules.paged [] [] [] ∙ sym (y .step rules.paged [] [] []) in
     (one-answer a b (ap (λ (d : Effect). d .reply) e), words-once (x .kept) (y .kept) (ap (λ (d : Effect). d .chip .regs) e) (x .still ∙ sym (y .still)))
 
 pub sets-once : {f : rules.Registers → rules.Registers} {w w₁ w₂ : List ℕ} → Sets f w w₁ → Sets f w w₂ → w₁ ≡ w₂
@@ -240,7 +252,7 @@ pub record Same (x y : Returned) (mem mem′ out out′ : List ℕ) : Type 0 whe
 -- Only one result: answer, words, sets, queues, memory and output.
 pub only : (i : Input) (r : Registers) (p : Pages) (k : Queues) (mem : List ℕ) (x y : Returned) (mem₁ mem₂ out₁ out₂ : List ℕ)
     → Answers i r p k mem x mem₁ out₁ → Answers i r p k mem y mem₂ out₂ → Same x y mem₁ mem₂ out₁ out₂
-only i r p k mem x y mem₁ mem₂ out₁ out₂ a b = go (decided (r .words) (p .sets) (k .slots) mem)
+only i r p k mem x y mem₁ mem₂ out₁ out₂ a b = go (decided rules.paged (r .words) (p .sets) (k .slots) mem)
   where
     go : Dec (InOrderBy r p k mem) → Same x y mem₁ mem₂ out₁ out₂
     go (yes o) =

@@ -1,22 +1,20 @@
 -- What a step over the lent state promises.
 use mathlib.Core.Path.{_≡_, ap, sym, subst, _∙_}
-use mathlib.Core.List.{List, map}
+use mathlib.Core.List.{List}
 use Prim.Native.Nat.{ℕ, _/_, _%_, _^_, _<_}
 use lib.ListN.{length, getD}
 use Rattle.rules.specs.Bits.{wordOf}
-use Rattle.rules.specs.Lists.{freeBelow}
-use Rattle.rules.specs.Chip.{Registers, Chip}
+use Rattle.rules.specs.Chip.{Registers, Layout, paged, Chip, freeFor}
 use Rattle.rules.specs.Answers.{Effect, did}
 use Rattle.rules.specs.Fields.{inRegisters}
 use Rattle.rules.specs.WellFormed.{Formed}
-use Rattle.sets.specs.Views.{pagesOf}
 use Rattle.sets.specs.Members.{setOf}
 use Rattle.queues.specs.Slots.{Slots}
 use Rattle.queues.specs.Parts.{slots}
 use Rattle.state.specs.declared.Answer.{Answer}
 use Rattle.state.specs.declared.Answer.the-variants.{Done}
 use Rattle.state.specs.Meaning.{replyOf}
-use Rattle.state.specs.View.{word, registersIn, figures, queueIn, poolIn, view, Kept}
+use Rattle.state.specs.View.{word, registersIn, figures, queueIn, listsOf, poolOf, viewOf, Kept}
 
 -- the lower 16 bits of a number, and the others
 pub record Halves (low high x : ℕ) : Type 0 where
@@ -32,32 +30,45 @@ pub record QueuesIn (c q : List ℕ) : Type 0 where
   pub inRx : Halves (word c 4) (word c 5) (setOf (queueIn 0 (word c 0) q))
   pub inTx : Halves (word c 6) (word c 7) (setOf (queueIn 1 (word c 1) q))
 
--- Numbers of 32 bits, as the sets are: so they are known from their pages.
+-- Numbers of 32 bits, as sets of pages are: so these are known from their pages.
 abbrev pub Small : List ℕ → Type 0
 Small s = (i : ℕ) → getD s i 0 < 2 ^ 32
 
--- 24 page sets, and MIR has 24 and, above it, how many pages are in none of them
-pub record SetsIn (c s : List ℕ) : Type 0 where
+-- 24 numbers for the packets, and MIR has 24 and, above it, how many pages are free by them
+pub record PagesIn (l : Layout) (c s : List ℕ) : Type 0 where
   pub many : length s ≡ 24
-  pub free : word c 3 ≡ wordOf 24 (length (freeBelow 24 (map pagesOf s)))
+  pub free : word c 3 ≡ wordOf 24 (length (freeFor l (listsOf l s)))
   pub small : Small s
 
 -- the state is laid out as it must be: one state for each chip
-pub record Sound (w s q : List ℕ) : Type 0 where
+pub record SoundOf (l : Layout) (w s q : List ℕ) : Type 0 where
   pub kept : Kept w
   pub queues : QueuesIn (figures w) q
-  pub sets : SetsIn (figures w) s
+  pub sets : PagesIn l (figures w) s
 
 -- and it stands for a well-formed chip, whatever its memory
-pub record Ready (w s q : List ℕ) : Type 0 where
-  pub sound : Sound w s q
-  pub well : Formed 24 (registersIn w) (poolIn (figures w) s q)
+pub record ReadyOf (l : Layout) (w s q : List ℕ) : Type 0 where
+  pub sound : SoundOf l w s q
+  pub well : Formed 24 (registersIn w) (poolOf l (figures w) s q)
 
 -- the answer a, and the state after it, are the effect e of the rules
-pub record Makes (e : Effect) (a : Answer) (w s q mem : List ℕ) : Type 0 where
-  pub chip : view w s q mem ≡ e .chip
+pub record MakesOf (l : Layout) (e : Effect) (a : Answer) (w s q mem : List ℕ) : Type 0 where
+  pub chip : viewOf l w s q mem ≡ e .chip
   pub reply : replyOf a ≡ e .reply
-  pub sound : Sound w s q
+  pub sound : SoundOf l w s q
+
+-- the same with page sets
+abbrev pub SetsIn : List ℕ → List ℕ → Type 0
+SetsIn = PagesIn paged
+
+abbrev pub Sound : List ℕ → List ℕ → List ℕ → Type 0
+Sound = SoundOf paged
+
+abbrev pub Ready : List ℕ → List ℕ → List ℕ → Type 0
+Ready = ReadyOf paged
+
+abbrev pub Makes : Effect → Answer → List ℕ → List ℕ → List ℕ → List ℕ → Type 0
+Makes = MakesOf paged
 
 -- A change of the registers alone: from the words w to w′.
 pub record Sets (f : Registers → Registers) (w w′ : List ℕ) : Type 0 where
@@ -73,27 +84,27 @@ sets-both {f} {g} a b = record { regs = b .regs ∙ ap g (a .regs); still = b .s
 pub sets-as : {f g : Registers → Registers} {w w′ : List ℕ} → Sets f w w′ → f (registersIn w) ≡ g (registersIn w) → Sets g w w′
 sets-as a e = record { regs = a .regs ∙ e; still = a .still; kept = a .kept }
 
--- the chip after it, beside any page sets, queues and memory; and the state is sound
-pub sets-chip : {f : Registers → Registers} {w w′ : List ℕ} → Sets f w w′ → (s q mem : List ℕ) → view w′ s q mem ≡ inRegisters f (view w s q mem)
-sets-chip {f} {w} {w′} a s q mem =
-    ap (λ (r : Registers). record { regs = r; pool = poolIn (figures w′) s q; memory = mem }) (a .regs)
-    ∙ ap (λ (c : List ℕ). record { regs = f (registersIn w); pool = poolIn c s q; memory = mem }) (a .still)
+-- the chip after it, beside any packets' numbers, queues and memory; and the state is sound
+pub sets-chip : {f : Registers → Registers} {w w′ : List ℕ} → Sets f w w′ → (l : Layout) (s q mem : List ℕ) → viewOf l w′ s q mem ≡ inRegisters f (viewOf l w s q mem)
+sets-chip {f} {w} {w′} a l s q mem =
+    ap (λ (r : Registers). record { regs = r; pool = poolOf l (figures w′) s q; memory = mem }) (a .regs)
+    ∙ ap (λ (c : List ℕ). record { regs = f (registersIn w); pool = poolOf l c s q; memory = mem }) (a .still)
 
-pub sets-sound : {f : Registers → Registers} {w w′ s q : List ℕ} → Sets f w w′ → Sound w s q → Sound w′ s q
-sets-sound {f} {w} {w′} {s} {q} a o = record { kept = a .kept; queues = subst (λ (c : List ℕ). QueuesIn c q) (sym (a .still)) (o .queues); sets = subst (λ (c : List ℕ). SetsIn c s) (sym (a .still)) (o .sets) }
+pub sets-sound : {l : Layout} {f : Registers → Registers} {w w′ s q : List ℕ} → Sets f w w′ → SoundOf l w s q → SoundOf l w′ s q
+sets-sound {l} {s = s} {q = q} a o = record { kept = a .kept; queues = subst (λ (c : List ℕ). QueuesIn c q) (sym (a .still)) (o .queues); sets = subst (λ (c : List ℕ). PagesIn l c s) (sym (a .still)) (o .sets) }
 
 -- A step that looks at the registers alone, and changes no more.
 pub record Does (f : Chip → Effect) (w : List ℕ) (a : Answer) (w′ : List ℕ) : Type 0 where
-  pub step : (s q mem : List ℕ) → record { reply = replyOf a; chip = view w′ s q mem } ≡ f (view w s q mem)
+  pub step : (l : Layout) (s q mem : List ℕ) → record { reply = replyOf a; chip = viewOf l w′ s q mem } ≡ f (viewOf l w s q mem)
   pub still : figures w′ ≡ figures w
   pub kept : Kept w′
 
 pub does-sets : {f : Registers → Registers} {w w′ : List ℕ} → Sets f w w′ → Does (λ c. did (inRegisters f c)) w (Done 0) w′
-does-sets a = record { step = λ s q mem. ap did (sets-chip a s q mem); still = a .still; kept = a .kept }
+does-sets a = record { step = λ l s q mem. ap did (sets-chip a l s q mem); still = a .still; kept = a .kept }
 
-pub does-makes : {f : Chip → Effect} {w w′ s q : List ℕ} {a : Answer} → Does f w a w′ → Sound w s q → (mem : List ℕ) → Makes (f (view w s q mem)) a w′ s q mem
-does-makes {f} {w} {w′} {s} {q} d o mem = record {
-  chip = ap (λ (e : Effect). e .chip) (d .step s q mem);
-  reply = ap (λ (e : Effect). e .reply) (d .step s q mem);
-  sound = record { kept = d .kept; queues = subst (λ (c : List ℕ). QueuesIn c q) (sym (d .still)) (o .queues); sets = subst (λ (c : List ℕ). SetsIn c s) (sym (d .still)) (o .sets) };
+pub does-makes : {l : Layout} {f : Chip → Effect} {w w′ s q : List ℕ} {a : Answer} → Does f w a w′ → SoundOf l w s q → (mem : List ℕ) → MakesOf l (f (viewOf l w s q mem)) a w′ s q mem
+does-makes {l} {s = s} {q = q} d o mem = record {
+  chip = ap (λ (e : Effect). e .chip) (d .step l s q mem);
+  reply = ap (λ (e : Effect). e .reply) (d .step l s q mem);
+  sound = record { kept = d .kept; queues = subst (λ (c : List ℕ). QueuesIn c q) (sym (d .still)) (o .queues); sets = subst (λ (c : List ℕ). PagesIn l c s) (sym (d .still)) (o .sets) };
 }

@@ -13,11 +13,12 @@ use lib.ListN.{length, take, drop, getD, replicate, length-drop, length-replicat
 use lib.Pow.{pow-mono, shr-shr}
 use lib.Seq.{length-take-le, getD-take, getD-drop, getD-append-add, ext-getD}
 use Rattle.rules.specs.Bits.{bit, flag, wordOf}
-use Rattle.rules.specs.Lists.{member, some?, freeBelow}
+use Rattle.rules.specs.Lists.{member, some?, total}
+use Rattle.rules.specs.Chip.{paged, freeFor}
 use Rattle.rules.specs.WellFormed.{Distinct, GoodPages, GoodQueues, GoodNumbers, GoodRequest}
 use Rattle.lists.specs.Facts.{if-not, member-at}
 use Rattle.lists.specs.Each.{Each, each-member, member-each}
-use Rattle.wellformed.specs.Count.{total, free-and-total}
+use Rattle.wellformed.specs.Layouts.{free-total}
 use Rattle.wellformed.specs.Pool.{has-small}
 use Rattle.sets.specs.Views.{pagesOf}
 use Rattle.sets.specs.Bits.{bits-bound, bits-same}
@@ -268,12 +269,12 @@ small-entries s l long h k m = omega (arith, has-small (map pagesOf s) k (h k m)
 
 module _ (w s q : List ℕ) (typed : (i : ℕ) → word w i < 65536) (fits : Small s) (long : length s ≡ 24) (pages : GoodPages 24 (map pagesOf s))
     (queues : GoodQueues 24 (map pagesOf s) (queueIn 0 (word w 6) q) (queueIn 1 (word w 8) q) (queueIn 2 (word w 9) q)) where
-  free-counted : length (freeBelow 24 (map pagesOf s)) + pagesIn s ≡ 24
-  free-counted = omega (arith, free-and-total 24 (map pagesOf s) pages, pages-counted s fits)
+  free-counted : length (freeFor paged (map pagesOf s)) + pagesIn s ≡ 24
+  free-counted = omega (arith, free-total paged 24 (map pagesOf s) (record { count = lists-length s ∙ long; pages = pages; laid = tt }), pages-counted s fits)
 
   -- the free count, and both queues' bits
   figures-as-count : FiguresFormed w s q
-      → (word w 4 ≡ wordOf 24 (length (freeBelow 24 (map pagesOf s)))) × Halves (word w 28) (word w 29) (setOf (queueIn 0 (word w 6) q)) × Halves (word w 30) (word w 31) (setOf (queueIn 1 (word w 8) q))
+      → (word w 4 ≡ wordOf 24 (length (freeFor paged (map pagesOf s)))) × Halves (word w 28) (word w 29) (setOf (queueIn 0 (word w 6) q)) × Halves (word w 30) (word w 31) (setOf (queueIn 1 (word w 8) q))
   unfolding wordOf
   figures-as-count f = (
     omega (arith, f .size, f .free, free-counted),
@@ -281,7 +282,7 @@ module _ (w s q : List ℕ) (typed : (i : ℕ) → word w i < 65536) (fits : Sma
     bits-as-set _ _ _ (queues .txDistinct) (typed 30) (typed 31) (small-entries s _ long (queues .txAllocated)) (f .inTx),
   )
 
-  count-as-figures : word w 4 ≡ wordOf 24 (length (freeBelow 24 (map pagesOf s))) → Halves (word w 28) (word w 29) (setOf (queueIn 0 (word w 6) q)) → Halves (word w 30) (word w 31) (setOf (queueIn 1 (word w 8) q))
+  count-as-figures : word w 4 ≡ wordOf 24 (length (freeFor paged (map pagesOf s))) → Halves (word w 28) (word w 29) (setOf (queueIn 0 (word w 6) q)) → Halves (word w 30) (word w 31) (setOf (queueIn 1 (word w 8) q))
       → FiguresFormed w s q
   unfolding wordOf
   count-as-figures e rx tx = record {
@@ -326,7 +327,7 @@ restated w s q typed = (
           queues = record { long = queues .0 .long; rx = queues .0 .rx; tx = queues .0 .tx; completion = queues .0 .completion; inRx = figures .1; inTx = figures .2 };
           sets = record { many = pages .0; free = figures .0; small = pages .1 };
         };
-        well = record { count = lists-length s ∙ pages .0; pages = pages .2; numbers = words .1; queues = queues .1; request = request-restated w _ (figures .0) .0 (f .request) };
+        well = record { count = lists-length s ∙ pages .0; pages = pages .2; laid = tt; numbers = words .1; queues = queues .1; request = request-restated w _ (figures .0) .0 (f .request) };
       },
   λ r.
       let words = words-restated w .1 (r .sound .kept, r .well .numbers) in

@@ -1,10 +1,12 @@
--- What the lent state stands for: 32 words of registers, 24 page sets, and 72 bytes of queues, RX, TX and completion of 24 each.
+-- What the lent state stands for: 32 words of registers, 24 numbers which say the packets' pages, and 72 bytes of queues, RX, TX and completion of 24 each.
+-- A packet's number is the set of its pages; on the chip of strips (document 02, W3) it is how many pages the packet has.
 use mathlib.Core.Path.{_≡_}
 use mathlib.Core.List.{List, [], _∷_, map}
-use Prim.Native.Nat.{ℕ, _+_, _*_, _/_, _%_}
+use Prim.Native.Nat.{ℕ, suc, _+_, _*_, _/_, _%_}
 use lib.ListN.{length, getD, take}
 use Rattle.rules.specs.Bits.{bit, flag}
-use Rattle.rules.specs.Chip.{Registers, Pool, Chip}
+use Rattle.rules.specs.Lists.{upFrom}
+use Rattle.rules.specs.Chip.{Registers, Layout, paged, strips, Pool, Chip}
 use Rattle.sets.specs.Views.{pagesOf}
 use Rattle.queues.specs.Parts.{slots}
 
@@ -64,13 +66,30 @@ noFigures = 0 ∷ 0 ∷ 0 ∷ 0x1818 ∷ 0 ∷ 0 ∷ 0 ∷ 0 ∷ []
 abbrev pub queueIn : ℕ → ℕ → List ℕ → List ℕ
 queueIn k count q = take count (slots k q)
 
--- by the figures c, the page sets s and the queues' bytes q
-abbrev pub poolIn : List ℕ → List ℕ → List ℕ → Pool
-poolIn c s q = record { pages = map pagesOf s; rx = queueIn 0 (word c 0) q; tx = queueIn 1 (word c 1) q; completion = queueIn 2 (word c 2) q }
+-- from packet k on: so many pages of its own eight
+abbrev pub stripsFrom : ℕ → List ℕ → List (List ℕ)
+stripsFrom k [] = []
+stripsFrom k (m ∷ ms) = upFrom (8 * k) m ∷ stripsFrom (suc k) ms
 
--- words, page sets, queues and memory
+-- the page lists that the packets' numbers s say
+abbrev pub listsOf : Layout → List ℕ → List (List ℕ)
+listsOf paged s = map pagesOf s
+listsOf strips s = stripsFrom 0 s
+
+-- by the figures c, the packets' numbers s and the queues' bytes q
+abbrev pub poolOf : Layout → List ℕ → List ℕ → List ℕ → Pool
+poolOf l c s q = record { layout = l; pages = listsOf l s; rx = queueIn 0 (word c 0) q; tx = queueIn 1 (word c 1) q; completion = queueIn 2 (word c 2) q }
+
+-- words, packets' numbers, queues and memory
+abbrev pub viewOf : Layout → List ℕ → List ℕ → List ℕ → List ℕ → Chip
+viewOf l w s q mem = record { regs = registersIn w; pool = poolOf l (figures w) s q; memory = mem }
+
+-- with page sets
+abbrev pub poolIn : List ℕ → List ℕ → List ℕ → Pool
+poolIn = poolOf paged
+
 abbrev pub view : List ℕ → List ℕ → List ℕ → List ℕ → Chip
-view w s q mem = record { regs = registersIn w; pool = poolIn (figures w) s q; memory = mem }
+view = viewOf paged
 
 -- TX EMPTY and RX_OVRN stand at their bits of interrupt status, and no other bit is set
 abbrev pub Latches : ℕ → Type 0

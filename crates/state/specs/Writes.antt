@@ -6,14 +6,14 @@ use Prim.Native.Nat.{ℕ, _+_, _*_, _/_, _%_, _<_}
 use native.Mathlib.Omega.{arith}
 use lib.ListN.{set}
 use Rattle.rules.specs.Bits.{bit, clearBit, lowByte}
-use Rattle.rules.specs.Chip.{Registers, Chip}
+use Rattle.rules.specs.Chip.{Registers, Layout, Chip}
 use Rattle.rules.specs.Fields.{setTcr, setEphsr, setRcr, setEcr, setControl, setPointer, inRegisters}
 use Rattle.rules.specs.Answers.{Effect, did, doneWith, refuse}
 use Rattle.rules.specs.Registers.{Register, Lanes, TCR, EPHSR, RCR, ECR, MIR, RESERVED, STATION, CONTROL, PACKET, HEADS, POINTER, TABLE, BANK, UNUSED, ABSENT, low, high, both, taken, forgotten, clearEcr, writeTcr, newRcr, writeRcr, lowOnly, readRegister, writeRegister}
 use Rattle.state.specs.declared.Answer.{Answer}
 use Rattle.state.specs.declared.Answer.the-variants.{Done, NotModelled, ReadOnly}
 use Rattle.state.specs.Meaning.{replyOf, isHigh, Joined}
-use Rattle.state.specs.View.{word, registersIn, view, Kept}
+use Rattle.state.specs.View.{word, registersIn, viewOf, Kept}
 use Rattle.state.specs.Promise.{Sets, sets-both, sets-as, sets-chip, Does, does-sets}
 use Rattle.state.specs.Stores.{store-tcr, store-ephsr, store-rcr, store-ecr, store-control, store-pointer, store-reserved, store-bank, store-packet, store-station-0, store-station-1, store-station-2, store-table-0, store-table-1, store-table-2, store-table-3}
 
@@ -58,7 +58,7 @@ unfolding writeRegister
 writes-table-3 p v new w k joined = does-sets (store-table-3 p v new w k joined)
 
 -- Refusals, and writes that are ignored.
-pub unchanged : (f : Chip → Effect) (a : Answer) (w : List ℕ) → Kept w → ((s q mem : List ℕ) → record { reply = replyOf a; chip = view w s q mem } ≡ f (view w s q mem)) → Does f w a w
+pub unchanged : (f : Chip → Effect) (a : Answer) (w : List ℕ) → Kept w → ((l : Layout) (s q mem : List ℕ) → record { reply = replyOf a; chip = viewOf l w s q mem } ≡ f (viewOf l w s q mem)) → Does f w a w
 unchanged f a w k e = record { step = e; still = refl; kept = k }
 
 -- registers whose high byte is read-only
@@ -71,39 +71,39 @@ low-only both c e = refl
 module _ (p : Lanes) (v : ℕ) (w : List ℕ) (k : Kept w) where
   pub writes-ephsr : Does (writeRegister EPHSR p v) w ReadOnly w
   unfolding writeRegister
-  writes-ephsr = unchanged _ ReadOnly w k (λ s q mem. refl)
+  writes-ephsr = unchanged _ ReadOnly w k (λ l s q mem. refl)
 
   pub writes-ecr : Does (writeRegister ECR p v) w ReadOnly w
   unfolding writeRegister
-  writes-ecr = unchanged _ ReadOnly w k (λ s q mem. refl)
+  writes-ecr = unchanged _ ReadOnly w k (λ l s q mem. refl)
 
   pub writes-mir : Does (writeRegister MIR p v) w ReadOnly w
   unfolding writeRegister
-  writes-mir = unchanged _ ReadOnly w k (λ s q mem. refl)
+  writes-mir = unchanged _ ReadOnly w k (λ l s q mem. refl)
 
   pub writes-heads : Does (writeRegister HEADS p v) w ReadOnly w
   unfolding writeRegister
-  writes-heads = unchanged _ ReadOnly w k (λ s q mem. refl)
+  writes-heads = unchanged _ ReadOnly w k (λ l s q mem. refl)
 
   pub writes-unused : Does (writeRegister UNUSED p v) w (Done 0) w
   unfolding writeRegister
-  writes-unused = unchanged _ (Done 0) w k (λ s q mem. refl)
+  writes-unused = unchanged _ (Done 0) w k (λ l s q mem. refl)
 
   pub writes-absent : Does (writeRegister ABSENT p v) w NotModelled w
   unfolding writeRegister
-  writes-absent = unchanged _ NotModelled w k (λ s q mem. refl)
+  writes-absent = unchanged _ NotModelled w k (λ l s q mem. refl)
 
   pub reserved-high : isHigh p ≡ true → Does (writeRegister RESERVED p v) w ReadOnly w
   unfolding writeRegister
-  reserved-high e = unchanged _ ReadOnly w k (λ s q mem. rw (low-only, e) refl)
+  reserved-high e = unchanged _ ReadOnly w k (λ l s q mem. rw (low-only, e) refl)
 
   pub packet-high : isHigh p ≡ true → Does (writeRegister PACKET p v) w ReadOnly w
   unfolding writeRegister
-  packet-high e = unchanged _ ReadOnly w k (λ s q mem. rw (low-only, e) refl)
+  packet-high e = unchanged _ ReadOnly w k (λ l s q mem. rw (low-only, e) refl)
 
   pub bank-high : isHigh p ≡ true → Does (writeRegister BANK p v) w ReadOnly w
   unfolding writeRegister
-  bank-high e = unchanged _ ReadOnly w k (λ s q mem. rw (low-only, e) refl)
+  bank-high e = unchanged _ ReadOnly w k (λ l s q mem. rw (low-only, e) refl)
 
 -- The low byte alone.
 abbrev pub Low : Register → ℕ → (ℕ → ℕ) → Type 0
@@ -112,7 +112,7 @@ Low r at f = (p : Lanes) (v : ℕ) → isHigh p ≡ false → (new : ℕ) (w : L
 low-does : {f : Registers → Registers} {w w′ : List ℕ} (p : Lanes) → isHigh p ≡ false → Sets f w w′ → Does (λ c. lowOnly p c (did (inRegisters f c))) w (Done 0) w′
 low-does {f} {w} {w′} p e a =
     let d = does-sets a in
-    record { step = λ s q mem. d .step s q mem ∙ sym (low-only p (view w s q mem) (did (inRegisters f (view w s q mem))) ∙ ap (λ (b : Bool). cond b (refuse 3 (view w s q mem)) (did (inRegisters f (view w s q mem)))) e); still = d .still; kept = d .kept }
+    record { step = λ l s q mem. d .step l s q mem ∙ sym (low-only p (viewOf l w s q mem) (did (inRegisters f (viewOf l w s q mem))) ∙ ap (λ (b : Bool). cond b (refuse 3 (viewOf l w s q mem)) (did (inRegisters f (viewOf l w s q mem)))) e); still = d .still; kept = d .kept }
 
 pub writes-reserved : Low RESERVED 5 (λ v. v % 256)
 unfolding writeRegister lowByte
@@ -131,7 +131,7 @@ pub writes-rcr : (p : Lanes) (v new : ℕ) → bit 15 new ≡ false → (w : Lis
 unfolding writeRegister writeRcr
 writes-rcr p v new stays w k right =
     let d = does-sets (store-rcr new w k) in
-    record { step = λ s q mem. d .step s q mem ∙ rw (← right, stays) refl; still = d .still; kept = d .kept }
+    record { step = λ l s q mem. d .step l s q mem ∙ rw (← right, stays) refl; still = d .still; kept = d .kept }
 
 -- TCR, and EPHSR by the word that is left.
 by-level : (x : ℕ) (r : Registers) → setEphsr (cond (bit 0 x) (forgotten (r .sending .ephsr)) (r .sending .ephsr)) (setTcr x r) ≡ writeTcr x r
@@ -156,4 +156,4 @@ unfolding readRegister
 reads-ecr p eph w k right =
     let first = store-ecr 0 w k in
     let cleared : Sets clearEcr w (set (set w 3 0) 1 eph) = sets-as (sets-both first (store-ephsr eph (set w 3 0) (first .kept))) (ap (λ (x : ℕ). setEphsr x (setEcr 0 (registersIn w))) right) in
-    record { step = λ s q mem. ap (doneWith (taken p (word w 3))) (sets-chip cleared s q mem); still = cleared .still; kept = cleared .kept }
+    record { step = λ l s q mem. ap (doneWith (taken p (word w 3))) (sets-chip cleared l s q mem); still = cleared .still; kept = cleared .kept }

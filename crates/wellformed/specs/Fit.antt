@@ -1,17 +1,17 @@
 -- The test that refusal 16 makes is true exactly when the memory has its length and the chip is well formed: clause by clause.
-use mathlib.Core.Path.{_≡_, refl, ap, sym, _∙_}
+use mathlib.Core.Path.{_≡_, refl, ap, ap₂, sym, _∙_}
 use mathlib.Core.Bool.{true, false, _&&_, true≢false}
 use mathlib.Core.List.{List, [], _∷_}
-use Prim.Native.Nat.{ℕ, zero, suc, _*_, _≤_, _<_}
+use Prim.Native.Nat.{ℕ, zero, suc, _+_, _*_, _≤_, _<_}
 use native.Mathlib.Omega.{arith}
 use lib.Dec.{leb}
-use lib.ListN.{length, getD}
-use Rattle.rules.specs.Lists.{member, some?, owned, freeBelow}
-use Rattle.rules.specs.Chip.{Numbers, Pool, Chip}
+use lib.ListN.{length, getD, drop}
+use Rattle.rules.specs.Lists.{member, some?, owned, total, upFrom}
+use Rattle.rules.specs.Chip.{Numbers, Layout, paged, strips, Pool, Chip, pageNumbers, freeFor}
 use Rattle.rules.specs.Answers.{refused}
 use Rattle.rules.specs.Step.{Input, lent, serve, stepOf}
-use Rattle.rules.specs.WellFormed.{Above, Ascending, Distinct, GoodPages, GoodQueues, GoodNumbers, GoodRequest, FormedAt}
-use Rattle.rules.specs.Tests.{above, ascends, allBelow, apart, noneOwned, pagesGood, queueGood, queuesGood, numbersGood, requestGood, formed, fit}
+use Rattle.rules.specs.WellFormed.{Above, Ascending, Distinct, GoodPages, GoodStrips, Laid, GoodQueues, GoodNumbers, GoodRequest, FormedAt}
+use Rattle.rules.specs.Tests.{above, ascends, allBelow, apart, noneOwned, pagesGood, goesUp, ownGood, laidGood, queueGood, queuesGood, numbersGood, requestGood, formed, fit}
 use Rattle.lists.specs.Facts.{if-not, Decides, agrees, always, is-true, is-false, _and_, _or_, lt-decides, le-decides, eq-decides, nobody}
 use Rattle.lists.specs.Each.{Each, each-member, member-each, members}
 use Rattle.lists.specs.Owned.{owned-none, owned-in}
@@ -103,6 +103,43 @@ pages-decides n [] = always (good-none n)
 pages-decides n (l ∷ ls) =
     agrees (list-decides n l ls and pages-decides n ls) (λ w. good-more n l ls (w .0) (w .1)) (λ g. (good-first n l ls g, good-rest g))
 
+-- Strips: a list that goes up by one from its first page on; each packet's from the first page of its own strip on.
+up-decides : (x : ℕ) (l : List ℕ) → Decides (goesUp x l) (l ≡ upFrom x (length l))
+unfolding goesUp upFrom
+up-decides x [] = always refl
+up-decides x (y ∷ ys) =
+    agrees (eq-decides y x and up-decides (suc x) ys) (λ w. ap₂ _∷_ (w .0) (w .1)) (λ e. (ap (λ (l : List ℕ). getD l 0 0) e, ap (drop 1) e))
+
+-- from packet k on
+abbrev Own : ℕ → List (List ℕ) → Type 0
+Own k ls = (i : ℕ) → getD ls i [] ≡ upFrom (8 * (k + i)) (length (getD ls i []))
+
+own-decides : (k : ℕ) (ls : List (List ℕ)) → Decides (ownGood k ls) (Own k ls)
+unfolding ownGood upFrom
+own-decides k [] = always (λ i. refl)
+own-decides k (l ∷ ls) = agrees (up-decides (8 * k) l and own-decides (suc k) ls) both split
+  where
+    here : l ≡ upFrom (8 * k) (length l) → l ≡ upFrom (8 * (k + 0)) (length l)
+    here e = e ∙ ap (λ (x : ℕ). upFrom (8 * x) (length l)) (omega arith)
+
+    both : (l ≡ upFrom (8 * k) (length l)) × Own (suc k) ls → Own k (l ∷ ls)
+    both w zero = here (w .0)
+    both w (suc i) = w .1 i ∙ ap (λ (x : ℕ). upFrom (8 * x) (length (getD ls i []))) (omega arith)
+
+    split : Own k (l ∷ ls) → (l ≡ upFrom (8 * k) (length l)) × Own (suc k) ls
+    split h = (
+      h 0 ∙ ap (λ (x : ℕ). upFrom (8 * x) (length l)) (omega arith),
+      λ i. h (suc i) ∙ ap (λ (x : ℕ). upFrom (8 * x) (length (getD ls i []))) (omega arith),
+    )
+
+laid-decides : (l : Layout) (n : ℕ) (ls : List (List ℕ)) → Decides (laidGood l n ls) (Laid l n ls)
+unfolding laidGood
+laid-decides paged n ls = always tt
+laid-decides strips n ls =
+    agrees (own-decides 0 ls and le-decides (total ls) n)
+    (λ w. record { own = λ k. w .0 k ∙ ap (λ (x : ℕ). upFrom (8 * x) (length (getD ls k []))) (omega arith); sum = w .1 })
+    (λ g. (λ k. g .own k ∙ ap (λ (x : ℕ). upFrom (8 * x) (length (getD ls k []))) (omega arith), g .sum))
+
 -- Queues.
 abbrev Has : List (List ℕ) → ℕ → Type 0
 Has ls k = some? (getD ls k []) ≡ true
@@ -152,18 +189,18 @@ pub formed-decides : (n : ℕ) (c : Chip) → Decides (formed n c) (FormedAt n c
 unfolding formed
 formed-decides n c =
     agrees
-    (eq-decides (length (c .pool .pages)) n and pages-decides n (c .pool .pages) and numbers-decides n (c .regs .numbers) and queues-decides n (c .pool)
-    and request-decides (length (freeBelow n (c .pool .pages))) (c .regs .numbers))
-    (λ w. record { count = w .0 .0 .0 .0; pages = w .0 .0 .0 .1; numbers = w .0 .0 .1; queues = w .0 .1; request = w .1 })
-    (λ f. ((((f .count, f .pages), f .numbers), f .queues), f .request))
+    (eq-decides (length (c .pool .pages)) n and pages-decides (pageNumbers (c .pool .layout) n) (c .pool .pages) and laid-decides (c .pool .layout) n (c .pool .pages)
+    and numbers-decides n (c .regs .numbers) and queues-decides n (c .pool) and request-decides (length (freeFor (c .pool .layout) (c .pool .pages))) (c .regs .numbers))
+    (λ w. record { count = w .0 .0 .0 .0 .0; pages = w .0 .0 .0 .0 .1; laid = w .0 .0 .0 .1; numbers = w .0 .0 .1; queues = w .0 .1; request = w .1 })
+    (λ f. (((((f .count, f .pages), f .laid), f .numbers), f .queues), f .request))
 
--- what refusal 16 asks of a chip with n pages
+-- what refusal 16 asks of a chip with n packets
 abbrev pub Fits : ℕ → Chip → Type 0
-Fits n c = FormedAt n c × (length (c .memory) ≡ 256 * n)
+Fits n c = FormedAt n c × (length (c .memory) ≡ 256 * pageNumbers (c .pool .layout) n)
 
 pub fit-decides : (n : ℕ) (c : Chip) → Decides (fit n c) (Fits n c)
 unfolding fit
-fit-decides n c = agrees (eq-decides (length (c .memory)) (256 * n) and formed-decides n c) (λ w. (w .1, w .0)) (λ w. (w .1, w .0))
+fit-decides n c = agrees (eq-decides (length (c .memory)) (256 * pageNumbers (c .pool .layout) n) and formed-decides n c) (λ w. (w .1, w .0)) (λ w. (w .1, w .0))
 
 -- So a step on such a chip goes by its input, and on any other is refusal 16.
 module _ (n : ℕ) (i : Input) (c : Chip) where

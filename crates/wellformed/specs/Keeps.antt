@@ -10,8 +10,8 @@ use lib.Dec.{eqb, leb, ltb}
 use lib.ListN.{length, getD, set, take, length-replicate}
 use lib.Seq.{getD-set-same}
 use Rattle.rules.specs.Bits.{bit, lowByte}
-use Rattle.rules.specs.Lists.{member, some?, freeBelow, firstEmpty}
-use Rattle.rules.specs.Chip.{Registers, Chip, size, free, powered, powerUp}
+use Rattle.rules.specs.Lists.{member, some?, firstEmpty}
+use Rattle.rules.specs.Chip.{Registers, Layout, paged, strips, Chip, size, pageNumbers, free, powered, powerUp, stripsUp}
 use Rattle.rules.specs.Fields.{setRx, setCompletion, inRegisters, inPool, inMemory}
 use Rattle.rules.specs.Answers.{Effect, Turn}
 use Rattle.rules.specs.WellFormed.{Distinct, Waits, Formed, WellFormed}
@@ -69,8 +69,8 @@ module _ (n : ℕ) where
     head-small k ks e = omega (arith, has-small (c .pool .pages) k (w .0 .queues .rxAllocated k (rw e (member-first k ks))), w .0 .count)
 
     -- An allocation of more pages than are free waits.
-    pends : (m : ℕ) → (1 ≤ m) × (m ≤ 8) → length (free c) < m → Waits (length (freeBelow n (c .pool .pages))) m 0x80
-    pends m v h = record { few = v .1; short = omega (arith, h, ap (λ (k : ℕ). length (freeBelow k (c .pool .pages))) (w .0 .count)); unanswered = refl }
+    pends : (m : ℕ) → (1 ≤ m) × (m ≤ 8) → length (free c) < m → Waits (length (free c)) m 0x80
+    pends m v h = record { few = v .1; short = h; unanswered = refl }
 
     pub keeps-perform : (k : Command) → Valid k → Kept (perform k c)
     unfolding perform
@@ -83,7 +83,7 @@ module _ (n : ℕ) where
           w .1,
         ))
         (λ e. (beside (w .0) (with-result (w .0 .numbers) 0x80 (inr refl) m) (inr (pends m v (leb-false m (length (free c)) e))), w .1))
-    keeps-perform reset v = (rw (w .0 .count) (emptied n (with-result (w .0 .numbers) 0x80 (inr refl) 0) refl), w .1)
+    keeps-perform reset v = (rw (w .0 .count) (emptied (c .pool .layout) n (with-result (w .0 .numbers) 0x80 (inr refl) 0) refl), w .1)
     keeps-perform removeRx v = by-head c Kept _ (c .pool .rx) w (λ k ks e. (rx-popped (w .0) k ks e, w .1))
     keeps-perform removeAndRelease v =
         by-head c Kept _ (c .pool .rx) w
@@ -115,11 +115,11 @@ module _ (n : ℕ) where
     -- Of the writes to RCR only a soft reset changes the pool.
     keeps-rcr : (x : ℕ) → Fits n (writeRcr x c)
     unfolding writeRcr
-    keeps-rcr x = pick (Fits n) (bit 15 x) (rw (w .0 .count) (emptied n (reset-numbers n) refl), w .1) w
+    keeps-rcr x = pick (Fits n) (bit 15 x) (rw (w .0 .count) (emptied (c .pool .layout) n (reset-numbers n) refl), w .1) w
 
     keeps-tcr : (x : ℕ) → Fits n (inRegisters (writeTcr x) c)
     unfolding writeTcr
-    keeps-tcr x = pick (λ (r : Registers). Formed n r (c .pool) × (length (c .memory) ≡ 256 * n)) (bit 0 x) w w
+    keeps-tcr x = pick (λ (r : Registers). Formed n r (c .pool) × (length (c .memory) ≡ 256 * pageNumbers (c .pool .layout) n)) (bit 0 x) w w
 
     keeps-acknowledge : (v : ℕ) → Fits n (acknowledge v c)
     keeps-acknowledge v = (
@@ -226,8 +226,11 @@ module _ (n : ℕ) (c : Chip) (w : Fits n c) where
   keeps i = by-step c Turned n i w (keeps-serve i)
 
 -- Power-up.
-pub powered-fits : (n : ℕ) → Fits n (powered n)
-powered-fits n = (emptied n (reset-numbers n) refl, length-replicate (256 * n) 0)
+pub powered-fits : (l : Layout) (n : ℕ) → Fits n (powered l n)
+powered-fits l n = (emptied l n (reset-numbers n) refl, length-replicate (256 * pageNumbers l n) 0)
 
 pub power-up-well : WellFormed powerUp
-power-up-well = powered-fits 24 .0
+power-up-well = powered-fits paged 24 .0
+
+pub strips-well : WellFormed stripsUp
+strips-well = powered-fits strips 24 .0

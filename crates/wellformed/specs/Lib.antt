@@ -4,6 +4,8 @@ pub mod Cases
 -- Pages: good lists stay good, and free pages with owned ones are all of them.
 pub mod Pages
 pub mod Count
+-- Both layouts: pages that a packet takes are nobody's, and what is free and what packets have are all.
+pub mod Layouts
 -- Refusal 16 is given exactly where the memory has another length or the chip is not well formed.
 pub mod Fit
 -- Each step keeps a chip well formed; power-up is.

@@ -7,16 +7,15 @@ use Prim.Native.Nat.{ℕ, zero, suc, _≤_, _<_}
 use native.Mathlib.Omega.{arith}
 use borrow.Author.Tests.{eq-eqb}
 use lib.Dec.{eqb}
-use lib.ListN.{length, getD, set, take, drop, replicate, length-append, length-drop, length-set, length-take, length-replicate}
+use lib.ListN.{length, getD, set, take, drop, length-append, length-drop}
 use lib.Seq.{getD-set-other}
-use Rattle.rules.specs.Lists.{member, some?, freeBelow, firstEmpty}
-use Rattle.rules.specs.Chip.{Numbers, Pool, resetRegisters, emptyPool}
+use Rattle.rules.specs.Lists.{member, some?, firstEmpty}
+use Rattle.rules.specs.Chip.{Numbers, Layout, Pool, resetRegisters, freeFor, emptyPool}
 use Rattle.rules.specs.Fields.{setPages, setRx, setTx, setCompletion}
-use Rattle.rules.specs.WellFormed.{Distinct, GoodPages, GoodQueues, GoodNumbers, GoodRequest, Clauses}
-use Rattle.lists.specs.Facts.{if-not, or-left, or-right, nobody, member-cases, member-later, member-append, member-free, member-take}
-use Rattle.wellformed.specs.Count.{free-set, unallocated}
-use Rattle.lists.specs.Owned.{owned-in}
-use Rattle.wellformed.specs.Pages.{granted-ascend, first-empty, set-good}
+use Rattle.rules.specs.WellFormed.{Distinct, GoodQueues, GoodNumbers, GoodRequest, Clauses}
+use Rattle.lists.specs.Facts.{if-not, or-left, or-right, nobody, member-cases, member-later, member-append}
+use Rattle.wellformed.specs.Pages.{first-empty}
+use Rattle.wellformed.specs.Layouts.{GoodLists, unallocated, granted-lists, back-lists, free-set, none-lists}
 
 -- An allocated number is in range.
 pub has-small : (ls : List (List ℕ)) (i : ℕ) → some? (getD ls i []) ≡ true → i < length ls
@@ -139,15 +138,20 @@ module _ {n : ℕ} {r : Numbers} {q : Pool} (w : Clauses n r q) where
   Good x = Clauses n r x
 
   -- The queues are others.
-  requeued : (rx tx completion : List ℕ) → GoodQueues n (q .pages) rx tx completion → Good (record { pages = q .pages; rx = rx; tx = tx; completion = completion })
-  requeued rx tx completion g = record { count = w .count; pages = w .pages; numbers = w .numbers; queues = g; request = w .request }
+  requeued : (rx tx completion : List ℕ) → GoodQueues n (q .pages) rx tx completion → Good (record { layout = q .layout; pages = q .pages; rx = rx; tx = tx; completion = completion })
+  requeued rx tx completion g = record { count = w .count; pages = w .pages; laid = w .laid; numbers = w .numbers; queues = g; request = w .request }
+
+  -- its page lists
+  pub good-lists : GoodLists (q .layout) n (q .pages)
+  good-lists = record { count = w .count; pages = w .pages; laid = w .laid }
 
   -- A packet in neither queue gets other pages, with which the page lists are good.
-  repaged : (k : ℕ) (l : List ℕ) → k < n → (member k (q .rx) ≡ true → ⊥) → (member k (q .tx) ≡ true → ⊥) → GoodPages n (set (q .pages) k l)
-      → GoodRequest (length (freeBelow n (set (q .pages) k l))) r → Good (setPages (set (q .pages) k l) q)
-  repaged k l h x t g asked = record {
-    count = length-set (q .pages) k l ∙ w .count;
-    pages = g;
+  repaged : (k : ℕ) (l : List ℕ) → (member k (q .rx) ≡ true → ⊥) → (member k (q .tx) ≡ true → ⊥) → GoodLists (q .layout) n (set (q .pages) k l)
+      → GoodRequest (length (freeFor (q .layout) (set (q .pages) k l))) r → Good (setPages (set (q .pages) k l) q)
+  repaged k l x t g asked = record {
+    count = g .count;
+    pages = g .pages;
+    laid = g .laid;
     numbers = w .numbers;
     queues = touched n (q .pages) (q .rx) (q .tx) (q .completion) (w .queues) k l x t;
     request = asked;
@@ -155,11 +159,11 @@ module _ {n : ℕ} {r : Numbers} {q : Pool} (w : Clauses n r q) where
 
   -- Pages are free, while nothing waits.
   pub made-free : r .waiting ≡ 0 → (k : ℕ) → k < n → (member k (q .rx) ≡ true → ⊥) → (member k (q .tx) ≡ true → ⊥) → Good (setPages (set (q .pages) k []) q)
-  made-free none k h x t = repaged k [] h x t (set-good (q .pages) k [] (omega (arith, w .count)) n (w .pages) tt (omega arith) (λ j m. nobody j m)) (inl none)
+  made-free none k h x t = repaged k [] x t (back-lists n (q .pages) k h (q .layout) good-lists) (inl none)
 
   -- The lowest unallocated number, where a page is free.
-  pub number-free : 0 < length (freeBelow (length (q .pages)) (q .pages)) → firstEmpty (q .pages) < n
-  number-free h = omega (arith, unallocated (q .pages) (rw (w .count) (w .pages)) h, w .count)
+  pub number-free : 0 < length (freeFor (q .layout) (q .pages)) → firstEmpty (q .pages) < n
+  number-free h = unallocated (q .layout) n (q .pages) good-lists h
 
   number-idle : some? (getD (q .pages) (firstEmpty (q .pages)) []) ≡ false
   unfolding some?
@@ -171,19 +175,15 @@ module _ {n : ℕ} {r : Numbers} {q : Pool} (w : Clauses n r q) where
   pub number-not-tx : member (firstEmpty (q .pages)) (q .tx) ≡ true → ⊥
   number-not-tx = absent (q .tx) (q .pages) (firstEmpty (q .pages)) (w .queues .txAllocated) number-idle
 
-  pub given : (m : ℕ) → 1 ≤ m → m ≤ 8 → m ≤ length (freeBelow (length (q .pages)) (q .pages))
-      → Good (setPages (set (q .pages) (firstEmpty (q .pages)) (take m (freeBelow (length (q .pages)) (q .pages)))) q)
+  pub given : (m : ℕ) → 1 ≤ m → m ≤ 8 → m ≤ length (freeFor (q .layout) (q .pages))
+      → Good (setPages (set (q .pages) (firstEmpty (q .pages)) (take m (freeFor (q .layout) (q .pages)))) q)
   given m a b h =
       let ls = q .pages in
       let k = firstEmpty ls in
-      let l = take m (freeBelow (length ls) ls) in
       let u = number-free (omega (arith, a, h)) in
-      let apart : (p : ℕ) → member p l ≡ true → (p < n) × ((i : ℕ) → (i ≡ k → ⊥) → member p (getD ls i []) ≡ true → ⊥) =
-      λ p x. let f = member-free (length ls) ls p (member-take p m (freeBelow (length ls) ls) x) in
-      (omega (arith, f .0, w .count), λ i d y. true≢false (sym (owned-in p ls i y) ∙ f .1)) in
-      let after = set-good ls k l (omega (arith, u, w .count)) n (w .pages) (granted-ascend m (length ls) ls) (simp length-take (omega (arith, b))) apart in
-      let fewer = free-set n ls k l (omega (arith, u, w .count)) (w .pages) after in
-      repaged k l u number-not-rx number-not-tx after (still-waits _ r (omega (arith, fewer, ap length (first-empty ls))) (w .request))
+      let after = granted-lists n ls m b (q .layout) good-lists h u in
+      let fewer = free-set (q .layout) n ls k _ u good-lists after in
+      repaged k _ number-not-rx number-not-tx after (still-waits _ r (omega (arith, fewer, ap length (first-empty ls))) (w .request))
 
   pub rx-popped : (k : ℕ) (ks : List ℕ) → q .rx ≡ k ∷ ks → Good (setRx ks q)
   rx-popped k ks e = requeued ks (q .tx) (q .completion) (popped n (q .pages) (q .rx) (q .tx) (q .completion) (w .queues) k ks e)
@@ -232,25 +232,16 @@ pub reset-numbers : (n : ℕ) → GoodNumbers n (resetRegisters [] .numbers)
 reset-numbers n = record { bankSmall = omega arith; packetSmall = omega arith; resultGood = inr refl }
 
 -- Other registers beside the same pool.
-pub beside : {n : ℕ} {r s : Numbers} {q : Pool} → Clauses n r q → GoodNumbers n s → GoodRequest (length (freeBelow n (q .pages))) s → Clauses n s q
-beside w g asked = record { count = w .count; pages = w .pages; numbers = g; queues = w .queues; request = asked }
+pub beside : {n : ℕ} {r s : Numbers} {q : Pool} → Clauses n r q → GoodNumbers n s → GoodRequest (length (freeFor (q .layout) (q .pages))) s → Clauses n s q
+beside w g asked = record { count = w .count; pages = w .pages; laid = w .laid; numbers = g; queues = w .queues; request = asked }
 
 -- No packet has pages, and no queue has entries.
-none-there : (n i : ℕ) → getD {A = List ℕ} (replicate n []) i [] ≡ []
-none-there zero i = refl
-none-there (suc n) zero = refl
-none-there (suc n) (suc i) = none-there n i
-
-pub emptied : (n : ℕ) {r : Numbers} → GoodNumbers n r → r .waiting ≡ 0 → Clauses n r (emptyPool n)
+pub emptied : (l : Layout) (n : ℕ) {r : Numbers} → GoodNumbers n r → r .waiting ≡ 0 → Clauses n r (emptyPool l n)
 unfolding member
-emptied n g none = record {
-  count = length-replicate n [];
-  pages = record {
-    once = λ i j a u v. nobody a (sym (ap (member a) (none-there n i)) ∙ u);
-    ascend = λ i. rw (none-there n i) tt;
-    within = λ i a u. nobody a (sym (ap (member a) (none-there n i)) ∙ u);
-    atMost = λ i. rw (none-there n i) (omega arith);
-  };
+emptied l n g none = record {
+  count = none-lists l n .count;
+  pages = none-lists l n .pages;
+  laid = none-lists l n .laid;
   numbers = g;
   queues = record {
     rxAllocated = λ j m. nobody j m;

@@ -6,8 +6,8 @@ use Prim.Native.Nat.{ℕ, _*_, _≤_, _<_}
 use native.Mathlib.Omega.{arith}
 use native.Mathlib.Decide.{decLe}
 use lib.ListN.{length}
-use Rattle.rules.specs.Lists.{member, freeBelow}
-use Rattle.rules.specs.Chip.{Numbers, Chip, free}
+use Rattle.rules.specs.Lists.{member}
+use Rattle.rules.specs.Chip.{Numbers, Chip, pageNumbers, free}
 use Rattle.rules.specs.WellFormed.{GoodRequest, Clauses, FormedAt}
 use Rattle.rules.specs.Mmu.{grant, due, settle, freed, giveBack}
 use Rattle.lists.specs.Facts.{if-not, Decides, _and_, lt-decides, le-decides}
@@ -59,9 +59,8 @@ module _ {n : ℕ} (c : Chip) (w : Clauses n (unasked (c .regs .numbers)) (c .po
 
   waits-on : due c ≡ false → FormedAt n c
   waits-on e =
-      let same : length (free c) ≡ length (freeBelow n (c .pool .pages)) = ap (λ (k : ℕ). length (freeBelow k (c .pool .pages))) (w .count) in
       beside w (with-result (w .numbers) (c .regs .numbers .result) (w .numbers .resultGood) waiting)
-      (⊎-elim (λ none. inl none) (λ p. inr (record { few = p .few; short = omega (arith, same, not-due c e (omega (arith, p .short))); unanswered = p .unanswered })) asked)
+      (⊎-elim (λ none. inl none) (λ p. inr (record { few = p .few; short = omega (arith, not-due c e (omega (arith, p .short))); unanswered = p .unanswered })) asked)
 
   pub settled : FormedAt n (settle c)
   settled = by-settle (FormedAt n) c (λ e. let d = due-decides c .sound e in granted (d .0) (d .1)) waits-on
@@ -71,5 +70,5 @@ pub given-back : (n : ℕ) (c : Chip) → Fits n c → (k : ℕ) → k < n → (
 given-back n c w k h r t =
     let none = beside (w .0) (with-result (w .0 .numbers) (c .regs .numbers .result) (w .0 .numbers .resultGood) 0) (inl refl) in (
       settled (freed k c) (made-free none refl k h r t) (w .0 .request),
-      by-settle (λ x. length (x .memory) ≡ 256 * n) (freed k c) (λ e. w .1) (λ e. w .1),
+      by-settle (λ x. length (x .memory) ≡ 256 * pageNumbers (x .pool .layout) n) (freed k c) (λ e. w .1) (λ e. w .1),
     )

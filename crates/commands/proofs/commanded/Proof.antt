@@ -2,6 +2,7 @@
 use mathlib.Core.Path.{_≡_, refl, ap, sym, subst, _∙_}
 use mathlib.Core.List.{List}
 use Prim.Native.Nat.{ℕ}
+use Rattle.rules.specs.Chip.{paged}
 use Rattle.rules.specs.Mmu as rules
 use Rattle.rules.specs.Mmu.{Command, decode, perform}
 use Rattle.wellformed.specs.Keeps.{Valid, decode-valid}
@@ -11,7 +12,7 @@ use Rattle.state.specs.Promise.{Ready}
 use Rattle.commands.specs.declared.Order.{Order}
 use Rattle.commands.specs.Orders.{commandOf, Performs}
 use Rattle.pool.specs.Pages.{waits-few}
-use Rattle.commands.proofs.Returns.{unchanged}
+use Rattle.commands.specs.Returns.{unchanged}
 use borrow.Author.Needs.{needs}
 use Rattle.commands.proofs.commanded.Statement.{statement}
 use Rattle.commands.proofs.commanded.Tie as tie
@@ -57,7 +58,7 @@ returns-4 c =
     let a = c .before .before .before .before in
     let t = a .before .before .before in
     let d = t .before .before in
-    as-told d (t .enum-told3 .given .1) (a .do-remove .ensures _ (ready d .sound .sets))
+    as-told d (t .enum-told3 .given .1) (a .do-remove .ensures paged _ (ready d .sound .sets))
 
 returns-5 : tie.Need-returns-5
 returns-5 c = let a = c .before .before .before .before .before .before in let t = a .before .before .before .before in as-told (t .before .before) (t .enum-told4 .given .1) (a .do-remove-and-release .ensures)
@@ -77,7 +78,7 @@ returns-8 c =
     let a = c .before .before .before .before in
     let t = a .before .before .before in
     let d = t .before .before in
-    as-told d (t .enum-told7 .given .1) (a .do-reset-tx .ensures _ (ready d .sound .sets))
+    as-told d (t .enum-told7 .given .1) (a .do-reset-tx .ensures paged _ (ready d .sound .sets))
 
 returns-9 : tie.Need-returns-9
 unfolding perform

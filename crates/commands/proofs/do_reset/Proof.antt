@@ -1,5 +1,5 @@
 -- The pool is emptied, then the result is stored.
-use Rattle.commands.proofs.Returns.{resets}
+use Rattle.commands.specs.Returns.{resets}
 use borrow.Author.Needs.{needs}
 use Rattle.commands.proofs.do_reset.Statement.{statement}
 use Rattle.commands.proofs.do_reset.Tie as tie

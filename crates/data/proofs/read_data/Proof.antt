@@ -9,7 +9,7 @@ use Rattle.state.specs.View.{word}
 use Rattle.data.specs.declared.Gate.{Gate}
 use Rattle.data.specs.declared.Gate.the-variants.{Open}
 use Rattle.data.specs.Access.{widthOf, pagesMeant, Guards, Room}
-use Rattle.data.proofs.Gates.{room, stopped, passed}
+use Rattle.data.specs.Gates.{room, stopped, passed}
 use Rattle.data.proofs.read_data.Statement.{statement}
 use Rattle.data.proofs.read_data.Tie as tie
 

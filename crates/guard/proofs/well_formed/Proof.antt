@@ -1,5 +1,5 @@
 -- Words, page sets, the request and queues, each decided by its test; and MIR by the pages that are counted free.
-use mathlib.Core.Path.{_≡_, ap, _∙_}
+use mathlib.Core.Path.{_≡_, ap, sym, _∙_}
 use mathlib.Core.Bool.{Bool, true, cond}
 use mathlib.Core.List.{map}
 use Prim.Native.Nat.{ℕ, _≤_}
@@ -9,11 +9,13 @@ use borrow.Author.Tests.{not-true, not-false}
 use lib.ListN.{length}
 use Rattle.rules.specs.Bits.{wordOf}
 use Rattle.rules.specs.Lists.{freeBelow}
+use Rattle.rules.specs.Chip.{paged, freeFor}
 use Rattle.lists.specs.Facts.{refutes, agrees, free-few}
 use Rattle.sets.specs.Views.{pagesOf}
 use Rattle.sets.specs.Lists.{lists-length}
 use Rattle.sets.specs.Good.{never}
 use Rattle.state.specs.View.{word}
+use Rattle.state.specs.Pages.{free-sets}
 use Rattle.state.specs.Promise.{Small}
 use Rattle.state.specs.Restated.{request-restated}
 use Rattle.guard.proofs.well_formed.Statement.{statement}
@@ -34,16 +36,18 @@ module _ (e : tie.Else2) where
   s = a .before .before .before .before .before .before
 
   abbrev free : ℕ
-  free = length (freeBelow 24 (map pagesOf (s .args .sets .now)))
+  free = length (freeFor paged (map pagesOf (s .args .sets .now)))
 
   good : a .audit .result .0 ≡ true
   good = not-false _ (e .if2 .left)
 
   counted : a .audit .result .1 ≡ free
-  counted = a .audit .ensures .1 ∙ ap (λ (b : Bool). cond b free 0) good
+  counted =
+      let ls = map pagesOf (s .args .sets .now) in
+      a .audit .ensures .1 ∙ ap (λ (b : Bool). cond b (length (freeBelow 24 ls)) 0) good ∙ sym (ap length (free-sets (s .args .sets .now) (s .pre .1)))
 
   few : a .audit .result .1 ≤ 24
-  few = omega (arith, counted, free-few 24 (map pagesOf (s .args .sets .now)))
+  few = omega (arith, counted, ap length (free-sets (s .args .sets .now) (s .pre .1)), free-few 24 (map pagesOf (s .args .sets .now)))
 
 cast-if3 : tie.Need-cast-if3
 cast-if3 c = omega (arith, c .shared-slice-known4 .given 4)
@@ -80,7 +84,7 @@ returns-5 c =
     agrees (c .queues-good .ensures)
     (λ g. record {
       sound = record { kept = words .0; queues = g .0; sets = record { many = s e .pre .1; free = mir-counted m; small = small } };
-      well = record { count = lists-length (s e .args .sets .now) ∙ s e .pre .1; pages = a e .audit .ensures .0 .sound (good e); numbers = words .1; queues = g .1; request = request };
+      well = record { count = lists-length (s e .args .sets .now) ∙ s e .pre .1; pages = a e .audit .ensures .0 .sound (good e); laid = tt; numbers = words .1; queues = g .1; request = request };
     })
     (λ r. (r .sound .queues, r .well .queues))
 

@@ -4,7 +4,7 @@ use Prim.Native.Nat.{ℕ}
 use native.Mathlib.Omega.{arith}
 use borrow.Author.Needs.{needs}
 use lib.ListN.{replicate}
-use Rattle.pool.proofs.Emptied.{emptied}
+use Rattle.pool.specs.Figures.{emptied}
 use Rattle.pool.proofs.reset.Statement.{statement}
 use Rattle.pool.proofs.reset.Tie as tie
 

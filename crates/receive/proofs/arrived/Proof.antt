@@ -14,7 +14,7 @@ use Rattle.state.specs.Promise.{Makes, does-makes}
 use Rattle.receive.specs.declared.Verdict.{Verdict}
 use Rattle.receive.specs.declared.Verdict.the-variants.{Stored, Disabled, NotAccepted, TooLong, Bad, NoRoom}
 use Rattle.receive.specs.Arrivals.{arrivalOf, frameOf}
-use Rattle.receive.proofs.Arrives.{refuses, goes, stays}
+use Rattle.receive.specs.Arrives.{refuses, goes, stays}
 use Rattle.receive.proofs.arrived.Statement.{statement}
 use Rattle.receive.proofs.arrived.Tie as tie
 
@@ -33,7 +33,7 @@ start j = long j .before .before .before .before .before .before
 
 told : (j : tie.After-judged) (v : Verdict) {a : Answer} {w s q mem : List ℕ} → j .judged .result ≡ v
     → Makes (doneWith (valueFor (arrivalOf v)) (after (arrivalOf v) (the-frame (start j)) (chip (start j)))) a w s q mem → Makes (arrive (the-frame (start j)) (chip (start j))) a w s q mem
-told j v e t = let s = start j in rw (goes (s .pre .0) (s .args .memory .now) (the-frame s) (long j .if1 .left) v (sym (ap arrivalOf e) ∙ j .judged .ensures (s .args .sets .now) (s .pre .0 .sound .sets))) t
+told j v e t = let s = start j in rw (goes (s .pre .0) (s .args .memory .now) (the-frame s) (long j .if1 .left) v (sym (ap arrivalOf e) ∙ j .judged .ensures)) t
 
 -- the answer is all that there is of it
 unchanged : (j : tie.After-judged) (v : Verdict) (k : ℕ) → let s = start j in
@@ -46,7 +46,7 @@ stowed-requires c κs =
     let t = c .before .before .before .before in
     let j = t .before .before in
     let s = start j in
-    (record { ready = s .pre .0; long = long j .if1 .left; told = sym (j .judged .ensures (s .args .sets .now) (s .pre .0 .sound .sets)) ∙ ap arrivalOf (t .enum-told .given .1) }, s .pre .1)
+    (record { ready = s .pre .0; long = long j .if1 .left; told = sym (j .judged .ensures) ∙ ap arrivalOf (t .enum-told .given .1) }, s .pre .1)
 
 returns : tie.Need-returns
 returns c =

@@ -6,7 +6,7 @@ use Prim.Native.Nat.{ℕ}
 use Rattle.rules.specs.Mmu.{command}
 use Rattle.state.specs.View.{view}
 use Rattle.state.specs.Promise.{Makes}
-use Rattle.accesses.proofs.Reach.{makes-as, orders, orders-none}
+use Rattle.accesses.specs.Reach.{makes-as, orders, orders-none}
 use Rattle.accesses.proofs.writes.write_command.Statement.{statement}
 use Rattle.accesses.proofs.writes.write_command.Tie as tie
 

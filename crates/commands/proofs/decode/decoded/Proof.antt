@@ -3,7 +3,7 @@ use borrow.Author.Needs.{needs}
 use mathlib.Core.Path.{sym, ap}
 use native.Mathlib.Omega.{arith}
 use Rattle.rules.specs.Mmu.{decode}
-use Rattle.commands.proofs.Steps.{decode-allocate, decode-unknown}
+use Rattle.commands.specs.Steps.{decode-allocate, decode-unknown}
 use Rattle.commands.proofs.decode.decoded.Statement.{statement}
 use Rattle.commands.proofs.decode.decoded.Tie as tie
 

@@ -7,7 +7,7 @@ use native.Mathlib.Omega.{arith}
 use borrow.Author.Tests.{not-true, not-false}
 use lib.ListN.{getD}
 use Rattle.rules.specs.Lists.{member, some?}
-use Rattle.rules.specs.Chip.{Chip}
+use Rattle.rules.specs.Chip.{paged, Chip}
 use Rattle.rules.specs.Answers.{did}
 use Rattle.rules.specs.Fields.{setTx, inPool}
 use Rattle.rules.specs.Mmu as rules
@@ -15,8 +15,8 @@ use Rattle.lists.specs.Facts.{or-right}
 use Rattle.sets.specs.Views.{pagesOf}
 use Rattle.state.specs.View.{word, queueIn, view}
 use Rattle.pool.specs.Queues.{may-join-tx, rejoins-chip, rejoins-sound, queued-told}
-use Rattle.commands.proofs.Steps.{enqueues, packet-small, tx-room}
-use Rattle.commands.proofs.Returns.{performs, refuses-5, refuses-6, goes-ahead}
+use Rattle.commands.specs.Steps.{enqueues, packet-small, tx-room}
+use Rattle.commands.specs.Returns.{performs, refuses-5, refuses-6, goes-ahead}
 use borrow.Author.Needs.{needs}
 use Rattle.commands.proofs.register.do_enqueue.Statement.{statement}
 use Rattle.commands.proofs.register.do_enqueue.Tie as tie
@@ -38,7 +38,7 @@ returns : tie.Need-returns
 returns c =
     let a = c .before in
     let n = a .before in
-    refuses-5 rules.enqueue (λ x. did (after x)) enqueues _ _ _ _ (n .named .ensures) (n .before .before .before .before .before .pre .sound) (sym (a .is-allocated .ensures) ∙ not-true _ (c .if1 .taken))
+    refuses-5 paged rules.enqueue (λ x. did (after x)) enqueues _ _ _ _ (n .named .ensures) (n .before .before .before .before .before .pre .sound) (sym (a .is-allocated .ensures) ∙ not-true _ (c .if1 .taken))
 
 is-queued-requires : tie.Need-is-queued-requires
 is-queued-requires c κs =
@@ -55,7 +55,7 @@ returns-2 c =
     let i = c .before in
     let e = i .before .before in
     let n = e .before .before in
-    refuses-6 rules.enqueue (λ x. did (after x)) enqueues _ _ _ _ (n .named .ensures) (n .before .before .before .before .before .pre .sound) (there e) (told i) (c .if2 .taken)
+    refuses-6 paged rules.enqueue (λ x. did (after x)) enqueues _ _ _ _ (n .named .ensures) (n .before .before .before .before .before .pre .sound) (there e) (told i) (c .if2 .taken)
 
 join-tx-requires : tie.Need-join-tx-requires
 join-tx-requires c κs =
@@ -82,8 +82,8 @@ returns-3 c = λ mem.
     let ss = s .args .sets .now in
     let q = s .args .queues .now in
     performs rules.enqueue w ss q mem after
-    (goes-ahead rules.enqueue (λ x. did (after x)) enqueues w ss q _ (n .named .ensures) (there e) (told i) (f .if2 .left) mem)
-    (rejoins-chip (j .join-tx .ensures) ss mem ∙ ap (λ (k : ℕ). inPool (setTx (queueIn 1 (word w 8) q ++ (k ∷ []))) (view w ss q mem)) (n .named .ensures))
+    (goes-ahead paged rules.enqueue (λ x. did (after x)) enqueues w ss q _ (n .named .ensures) (there e) (told i) (f .if2 .left) mem)
+    (rejoins-chip (j .join-tx .ensures) paged ss mem ∙ ap (λ (k : ℕ). inPool (setTx (queueIn 1 (word w 8) q ++ (k ∷ []))) (view w ss q mem)) (n .named .ensures))
     (rejoins-sound (j .join-tx .ensures) (s .pre .sound .sets))
 
 pub do-enqueue-spec : {M : Type 1} → statement M

@@ -7,7 +7,7 @@ use native.Mathlib.Omega.{arith}
 use borrow.Author.Tests.{not-true, not-false}
 use lib.ListN.{getD}
 use Rattle.rules.specs.Lists.{some?}
-use Rattle.rules.specs.Chip.{Chip}
+use Rattle.rules.specs.Chip.{paged, Chip}
 use Rattle.rules.specs.Answers.{did}
 use Rattle.rules.specs.Mmu as rules
 use Rattle.wellformed.specs.Pool.{has-small}
@@ -16,8 +16,8 @@ use Rattle.sets.specs.Lists.{lists-length}
 use Rattle.state.specs.View.{view}
 use Rattle.pool.specs.Queues.{queued-told}
 use Rattle.pool.specs.Pages.{alters-sound}
-use Rattle.commands.proofs.Steps.{releases}
-use Rattle.commands.proofs.Returns.{performs, refuses-5, refuses-6, goes-ahead}
+use Rattle.commands.specs.Steps.{releases}
+use Rattle.commands.specs.Returns.{performs, refuses-5, refuses-6, goes-ahead}
 use borrow.Author.Needs.{needs}
 use Rattle.commands.proofs.register.do_release.Statement.{statement}
 use Rattle.commands.proofs.register.do_release.Tie as tie
@@ -38,7 +38,7 @@ small c =
 returns : tie.Need-returns
 returns c = λ q r.
     let a = c .before in
-    refuses-5 rules.release (λ x. did (after x)) releases _ _ q _ (a .before .before .named .ensures) (r .sound) (sym (a .is-allocated .ensures) ∙ not-true _ (c .if1 .taken))
+    refuses-5 paged rules.release (λ x. did (after x)) releases _ _ q _ (a .before .before .named .ensures) (r .sound) (sym (a .is-allocated .ensures) ∙ not-true _ (c .if1 .taken))
 
 is-queued-requires : tie.Need-is-queued-requires
 is-queued-requires c κs =
@@ -50,7 +50,7 @@ returns-2 : tie.Need-returns-2
 returns-2 c = λ q r.
     let i = c .before in
     let e = i .before .before in
-    refuses-6 rules.release (λ x. did (after x)) releases _ _ q _ (e .before .before .before .named .ensures) (r .sound) (there e) (i .is-queued .ensures ∙ queued-told r _) (c .if2 .taken)
+    refuses-6 paged rules.release (λ x. did (after x)) releases _ _ q _ (e .before .before .before .named .ensures) (r .sound) (there e) (i .is-queued .ensures ∙ queued-told r _) (c .if2 .taken)
 
 give-back-requires : tie.Need-give-back-requires
 give-back-requires c κs =
@@ -70,7 +70,7 @@ returns-3 c = λ q r mem.
     let ss = s .args .sets .now in
     let back = b .give-back .ensures in
     performs rules.release w ss q mem after
-    (goes-ahead rules.release (λ x. did (after x)) releases w ss q _ (n .named .ensures) (there e) (i .is-queued .ensures ∙ queued-told r _) (f .if2 .left) mem)
+    (goes-ahead paged rules.release (λ x. did (after x)) releases w ss q _ (n .named .ensures) (there e) (i .is-queued .ensures ∙ queued-told r _) (f .if2 .left) mem)
     (back .chip q mem ∙ ap (λ (j : ℕ). rules.giveBack j (view w ss q mem)) (n .named .ensures))
     (alters-sound back q (r .sound .queues))
 

@@ -4,15 +4,15 @@ use mathlib.Core.List.{[]}
 use Prim.Native.Nat.{ℕ, _<_}
 use native.Mathlib.Omega.{arith}
 use lib.ListN.{length, drop, getD}
-use Rattle.rules.specs.Chip.{Registers}
+use Rattle.rules.specs.Chip.{Registers, paged}
 use Rattle.rules.specs.Fields.{setRx, inPool}
 use Rattle.rules.specs.Mmu as rules
 use Rattle.state.specs.declared.Answer.the-variants as answer
 use Rattle.state.specs.View.{word, queueIn, view}
 use Rattle.pool.specs.Queues.{rejoins-chip, rejoins-sets}
 use Rattle.pool.specs.Pages.{alters-sound, waits-few}
-use Rattle.commands.proofs.Steps.{releases-none, releases-head, head-small}
-use Rattle.commands.proofs.Returns.{performs, unchanged}
+use Rattle.commands.specs.Steps.{releases-none, releases-head, head-small}
+use Rattle.commands.specs.Returns.{performs, unchanged}
 use borrow.Author.Needs.{needs}
 use Rattle.commands.proofs.rx.do_remove_and_release.Statement.{statement}
 use Rattle.commands.proofs.rx.do_remove_and_release.Tie as tie
@@ -50,7 +50,7 @@ returns-2 c = λ mem.
     let back = b .give-back .ensures in
     performs rules.removeAndRelease w ss q mem (λ x. rules.giveBack (getD (x .pool .rx) 0 0) (inPool (setRx (drop 1 (x .pool .rx))) x))
     (releases-head v (some e))
-    (back .chip (l .leave-rx .last .1 .0) mem ∙ ap (rules.giveBack k) (rejoins-chip (left .1) ss mem) ∙ ap (λ (j : ℕ). rules.giveBack j (inPool (setRx (drop 1 (queueIn 0 (word w 6) q))) v)) (left .0))
+    (back .chip (l .leave-rx .last .1 .0) mem ∙ ap (rules.giveBack k) (rejoins-chip (left .1) paged ss mem) ∙ ap (λ (j : ℕ). rules.giveBack j (inPool (setRx (drop 1 (queueIn 0 (word w 6) q))) v)) (left .0))
     (alters-sound back (l .leave-rx .last .1 .0) (left .1 .queues))
 
 pub do-remove-and-release-spec : {M : Type 1} → statement M

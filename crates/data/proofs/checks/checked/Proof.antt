@@ -11,7 +11,9 @@ use Rattle.rules.specs.Data.{against, oddFixed, address}
 use Rattle.lists.specs.Facts.{or-left}
 use Rattle.sets.specs.Views.{pagesOf}
 use Rattle.sets.specs.Pages.{rest-none, rest-goes, rest-first}
-use Rattle.data.proofs.Gates.{refuses, opens}
+use Rattle.rules.specs.Answers as rules
+use Rattle.data.specs.Access.{refusalIf}
+use Rattle.data.specs.Gates.{refuses, opens}
 use Rattle.data.proofs.checks.checked.Statement.{statement}
 use Rattle.data.proofs.checks.checked.Tie as tie
 
@@ -25,10 +27,10 @@ tests k =
 returns : tie.Need-returns
 unfolding address
 returns c =
-    let k = c .before .before in
+    let k = c .before .before .before in
     let w = k .before .before .before .before in
     let s = w .before in
-    refuses (s .args .reading) (s .args .pointer) (pagesOf (s .args .set)) (eqb (w .without .result) 0) (c .refusal .result) (c .refusal .ensures) (sym (tests k) ∙ c .before .if1 .taken)
+    refuses (s .args .reading) (s .args .pointer) (pagesOf (s .args .set)) (eqb (w .without .result) 0) (c .refusal .result) (c .refusal .ensures ∙ ap (λ (b : Bool). rules.refusal (refusalIf b (s .args .reading) (s .args .pointer))) (c .before .has-pages .ensures)) (sym (tests k) ∙ c .before .before .if1 .taken)
     (λ e. rest-none (s .args .set) (w .without .result) _ (w .without .ensures) (eqb-true _ _ e))
 
 -- so there is a page
@@ -52,4 +54,4 @@ returns-2 c =
     })
 
 pub checked-spec : {M : Type 1} → statement M
-checked-spec = tie.close (tie.spec (λ c κs. search needs) (λ c κs. search needs) (λ c κs. search needs) (λ c κs. search needs) (λ c κs. search needs) (λ c κs. search needs) returns (λ c κs. some c) returns-2)
+checked-spec = tie.close (tie.spec (λ c κs. search needs) (λ c κs. search needs) (λ c κs. search needs) (λ c κs. search needs) (λ c κs. search needs) (λ c κs. search needs) (λ c κs. search needs) returns (λ c κs. some c) returns-2)

@@ -2,7 +2,7 @@
 use borrow.Author.Needs.{needs}
 use mathlib.Core.Path.{refl, sym, _∙_}
 use native.Mathlib.Omega.{arith}
-use Rattle.data.proofs.Behind.{none-past, over-goes, over-lies, over-inside, two-read, is-past, reads}
+use Rattle.data.specs.Behind.{none-past, over-goes, over-lies, over-inside, two-read, is-past, reads}
 use Rattle.data.proofs.reads.read_across.Statement.{statement}
 use Rattle.data.proofs.reads.read_across.Tie as tie
 

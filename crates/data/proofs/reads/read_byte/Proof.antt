@@ -6,7 +6,7 @@ use lib.ListN.{getD}
 use Rattle.rules.specs.Bits.{wordOf}
 use Rattle.rules.specs.Packet.{getBytes}
 use Rattle.rules.specs.Data.{valueOf}
-use Rattle.data.proofs.Behind.{first-goes, reads}
+use Rattle.data.specs.Behind.{first-goes, reads}
 use Rattle.data.proofs.reads.read_byte.Statement.{statement}
 use Rattle.data.proofs.reads.read_byte.Tie as tie
 

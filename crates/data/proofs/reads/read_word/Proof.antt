@@ -1,7 +1,7 @@
 -- Two bytes that lie next to each other, or `read_across`.
 use borrow.Author.Needs.{needs}
 use mathlib.Core.Path.{sym}
-use Rattle.data.proofs.Behind.{next-goes, next-lies, two-read, reads}
+use Rattle.data.specs.Behind.{next-goes, next-lies, two-read, reads}
 use Rattle.data.proofs.reads.read_word.Statement.{statement}
 use Rattle.data.proofs.reads.read_word.Tie as tie
 

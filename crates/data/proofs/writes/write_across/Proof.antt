@@ -5,7 +5,7 @@ use mathlib.Core.Bool.{true}
 use native.Mathlib.Omega.{arith}
 use lib.ListN.{length-set}
 use Rattle.data.specs.Access.{bytesFor}
-use Rattle.data.proofs.Behind.{none-past, over-goes, over-lies, over-inside, two-written, is-past, writes}
+use Rattle.data.specs.Behind.{none-past, over-goes, over-lies, over-inside, two-written, is-past, writes}
 use Rattle.data.proofs.writes.write_across.Statement.{statement}
 use Rattle.data.proofs.writes.write_across.Tie as tie
 

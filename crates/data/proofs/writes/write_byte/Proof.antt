@@ -6,7 +6,7 @@ use Prim.Native.Nat.{ℕ}
 use lib.ListN.{set}
 use Rattle.rules.specs.Packet.{putBytes}
 use Rattle.data.specs.Access.{bytesFor}
-use Rattle.data.proofs.Behind.{first-goes, writes}
+use Rattle.data.specs.Behind.{first-goes, writes}
 use Rattle.data.proofs.writes.write_byte.Statement.{statement}
 use Rattle.data.proofs.writes.write_byte.Tie as tie
 

@@ -5,7 +5,7 @@ use mathlib.Core.Bool.{true}
 use native.Mathlib.Omega.{arith}
 use lib.ListN.{length-set}
 use Rattle.data.specs.Access.{bytesFor}
-use Rattle.data.proofs.Behind.{next-goes, next-lies, two-written, writes}
+use Rattle.data.specs.Behind.{next-goes, next-lies, two-written, writes}
 use Rattle.data.proofs.writes.write_word.Statement.{statement}
 use Rattle.data.proofs.writes.write_word.Tie as tie
 

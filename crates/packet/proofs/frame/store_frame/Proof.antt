@@ -1,33 +1,14 @@
 -- Head, data and trailer, one after the other, are the image.
 use borrow.Author.Needs.{needs}
-use mathlib.Core.Path.{_≡_, ap, sym, _∙_}
-use mathlib.Core.List.{List, [], _∷_, _++_}
-use Prim.Native.Nat.{ℕ, _+_, _≤_}
+use mathlib.Core.Path.{_∙_}
+use Prim.Native.Nat.{_+_}
 use native.Mathlib.Omega.{arith}
-use lib.ListN.{length, take}
-use lib.Seq.{length-take-le}
-use Rattle.rules.specs.Bits.{lowByte, highByte}
-use Rattle.rules.specs.Packet.{putBytes}
 use Rattle.rules.specs.Receive.{trailer}
-use Rattle.lists.specs.Bytes.{put-append, count-least}
+use Rattle.lists.specs.Bytes.{count-least}
 use Rattle.sets.specs.Views.{pagesOf}
-use Rattle.packet.specs.Room.{imageOf}
-use Rattle.packet.proofs.Facts.{room-less, room-put, room-small, room-rest, put-rest}
+use Rattle.packet.proofs.Facts.{room-less, room-put, room-small, room-rest, put-rest, put-image}
 use Rattle.packet.proofs.frame.store_frame.Statement.{statement}
 use Rattle.packet.proofs.frame.store_frame.Tie as tie
-
-put-image : {headed stored after : List ℕ} (status count n : ℕ) (bytes pages m : List ℕ) → n ≤ length bytes
-    → headed ≡ putBytes (lowByte status ∷ highByte status ∷ lowByte count ∷ highByte count ∷ []) 0 pages m
-    → stored ≡ putBytes (take n bytes) 4 pages headed
-    → after ≡ putBytes (trailer n) (n + 4) pages stored
-    → after ≡ putBytes (imageOf status count n bytes) 0 pages m
-unfolding putBytes
-put-image {headed} status count n bytes pages m h e f g =
-    g
-    ∙ ap (putBytes (trailer n) (n + 4) pages) f
-    ∙ ap (λ (k : ℕ). putBytes (trailer n) (k + 4) pages (putBytes (take n bytes) 4 pages headed)) (sym (length-take-le n bytes h))
-    ∙ sym (put-append (take n bytes) (trailer n) 4 pages headed)
-    ∙ ap (putBytes (take n bytes ++ trailer n) 4 pages) e
 
 write-head-requires : tie.Need-write-head-requires
 write-head-requires c κs =

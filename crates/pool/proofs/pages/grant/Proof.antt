@@ -1,18 +1,21 @@
 -- So many pages are free, and the packet had none.
-use mathlib.Core.Path.{refl, ap}
+use mathlib.Core.Path.{_≡_, refl, ap, sym, _∙_}
 use mathlib.Core.List.{List, map}
 use Prim.Native.Nat.{ℕ}
 use native.Mathlib.Omega.{arith}
 use borrow.Author.Needs.{needs}
-use lib.ListN.{length, take, set}
+use lib.ListN.{length, take, set, length-set}
 use lib.Seq.{length-take-le}
 use Rattle.rules.specs.Bits.{wordOf}
 use Rattle.rules.specs.Lists.{freeBelow}
+use Rattle.rules.specs.Chip.{paged, freeFor}
 use Rattle.wellformed.specs.Pages.{grant-good}
 use Rattle.sets.specs.Views.{pagesOf}
 use Rattle.sets.specs.Lists.{lists-length}
+use Rattle.state.specs.Pages.{free-sets}
 use Rattle.state.specs.Stores.{store-mir}
-use Rattle.pool.proofs.Paged.{repaged}
+use Rattle.pool.specs.Figures.{repaged}
+use Rattle.pool.proofs.Paged.{good-lists}
 use Rattle.pool.proofs.pages.grant.Statement.{statement}
 use Rattle.pool.proofs.pages.grant.Tie as tie
 
@@ -30,11 +33,14 @@ returns c =
     let s = f .before .before .before .before in
     let p = s .pre in
     let k = s .args .packet .0 in
-    let need = s .args .need in (
-      g .0,
-      repaged (λ ls. set ls k (take need (freeBelow 24 ls))) k _ _ _ _ _ _ (store-mir _ (s .args .words .now) (p .0)) (p .1) (p .2 .number) (p .2 .good)
-          (grant-good 24 _ k (omega (arith, lists-length (s .args .sets .now), p .1 .many, p .2 .number)) (p .2 .good) need (p .2 .short)) (λ i. omega (arith, c .slice-known4 .given i)) (g .1) refl
-          (omega (arith, f .fewer .ensures, p .1 .free, p .2 .few, length-take-le need (freeBelow 24 (map pagesOf (s .args .sets .now))) (p .2 .few), ap (λ (l : List ℕ). length l) (p .2 .none))),
+    let need = s .args .need in
+    let ls = map pagesOf (s .args .sets .now) in
+    let long : length ls ≡ 24 = lists-length (s .args .sets .now) ∙ p .1 .many in
+    let same : freeBelow 24 ls ≡ freeFor paged ls = sym (free-sets (s .args .sets .now) (p .1 .many)) in (
+      g .0 ∙ ap (take need) same,
+      repaged (λ ls. set ls k (take need (freeFor paged ls))) k _ _ _ _ _ _ (store-mir _ (s .args .words .now) (p .0)) (p .2 .number) (good-lists ls long (p .2 .good))
+          (good-lists _ (length-set ls k _ ∙ long) (rw long (grant-good 24 _ k (omega (arith, long, p .2 .number)) (p .2 .good) need (p .2 .short)))) (p .1) (λ i. omega (arith, c .slice-known4 .given i)) (g .1 ∙ ap (λ (l : List ℕ). set ls k (take need l)) same) refl
+          (omega (arith, f .fewer .ensures, p .1 .free, p .2 .few, length-take-le need (freeFor paged ls) (p .2 .few), ap (λ (l : List ℕ). length l) (p .2 .none))),
     )
 
 pub grant-spec : {M : Type 1} → statement M

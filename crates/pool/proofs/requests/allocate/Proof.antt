@@ -1,11 +1,12 @@
 -- Where enough pages are free a number is, and it gets the lowest of them.
-use mathlib.Core.Path.{_≡_, ap₂, sym, _∙_}
+use mathlib.Core.Path.{_≡_, ap, _∙_}
 use mathlib.Core.List.{map}
 use Prim.Native.Nat.{ℕ}
 use native.Mathlib.Omega.{arith}
 use borrow.Author.Needs.{needs}
 use lib.ListN.{length, set, take}
-use Rattle.rules.specs.Lists.{freeBelow, firstEmpty}
+use Rattle.rules.specs.Lists.{firstEmpty}
+use Rattle.rules.specs.Chip.{paged, freeFor}
 use Rattle.rules.specs.Fields.{setResult, setWaiting, setPages, inRegisters, inPool}
 use Rattle.sets.specs.Views.{pagesOf}
 use Rattle.sets.specs.Lists.{lists-length}
@@ -36,8 +37,8 @@ returns c =
     let ss = s .args .sets .now in
     let ls = map pagesOf ss in
     alters-as (alters-sets (repages-alters (c .before .before .before .before .before .before .before .before .grant .ensures .1)) (c .before .before .give-result .ensures))
-    (λ q mem. ap₂ (λ (j m : ℕ). inRegisters (λ r. setWaiting 0 (setResult j r)) (inPool (setPages (set ls j (take (s .args .need) (freeBelow m ls)))) (view w ss q mem)))
-    (c .before .before .before .before .before .before .before .before .before .before .before .lowest-unallocated .ensures) (sym (full s)))
+    (λ q mem. ap (λ (j : ℕ). inRegisters (λ r. setWaiting 0 (setResult j r)) (inPool (setPages (set ls j (take (s .args .need) (freeFor paged ls)))) (view w ss q mem)))
+    (c .before .before .before .before .before .before .before .before .before .before .before .lowest-unallocated .ensures))
 
 pub allocate-spec : {M : Type 1} → statement M
 allocate-spec =

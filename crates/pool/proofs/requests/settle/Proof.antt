@@ -5,7 +5,7 @@ use Prim.Native.Nat.{ℕ, _/_}
 use native.Mathlib.Omega.{arith}
 use borrow.Author.Needs.{needs}
 use lib.ListN.{length}
-use Rattle.rules.specs.Lists.{freeBelow}
+use Rattle.rules.specs.Chip.{paged, freeFor}
 use Rattle.wellformed.specs.Settle.{settle-none, settle-later, settle-now}
 use Rattle.sets.specs.Views.{pagesOf}
 use Rattle.sets.specs.Lists.{lists-length}
@@ -15,10 +15,8 @@ use Rattle.pool.proofs.requests.settle.Statement.{statement}
 use Rattle.pool.proofs.requests.settle.Tie as tie
 
 -- the free pages that the words count are those of the chip
-counted : (s : tie.Start) → let ls = map pagesOf (s .args .sets .now) in word (s .args .words .now) 4 / 256 ≡ length (freeBelow (length ls) ls)
-counted s =
-    let ls = map pagesOf (s .args .sets .now) in
-    free-told (s .args .words .now) (s .args .sets .now) (s .pre .1) ∙ sym (ap (λ (j : ℕ). length (freeBelow j ls)) (lists-length (s .args .sets .now) ∙ s .pre .1 .many))
+counted : (s : tie.Start) → let ls = map pagesOf (s .args .sets .now) in word (s .args .words .now) 4 / 256 ≡ length (freeFor paged ls)
+counted s = free-told (s .args .words .now) (s .args .sets .now) (s .pre .1)
 
 returns : tie.Need-returns
 returns c =

@@ -1,16 +1,15 @@
 -- The number compared with is that of the rules: the pages for the data length, at most 7 since
 -- the frame has at most 1,532 bytes, and the low byte of the word of reserved pages.
 use borrow.Author.Needs.{needs}
-use mathlib.Core.Path.{_≡_, ap₂, _∙_}
+use mathlib.Core.Path.{_≡_, ap₂}
 use Prim.Native.Nat.{ℕ, _+_, _%_, _≤_}
 use native.Mathlib.Omega.{arith}
 use lib.Dec.{ltb}
 use Rattle.rules.specs.Receive.{needed}
 use Rattle.wellformed.specs.Frames.{data-short, needs-seven}
 use Rattle.state.specs.View.{word, registersIn}
-use Rattle.pool.specs.Pages.{free-told}
 use Rattle.receive.specs.Arrivals.{withRcr}
-use Rattle.receive.proofs.Facts.{needed-by}
+use Rattle.receive.specs.Storing.{needed-by}
 use Rattle.receive.proofs.judge.is_full.Statement.{statement}
 use Rattle.receive.proofs.judge.is_full.Tie as tie
 
@@ -34,7 +33,7 @@ returns : tie.Need-returns
 returns c =
     let p = c .before .before in
     let s = p .before .before .before .before in
-    λ sets h. ap₂ (λ (x y : ℕ). ltb x (y + word (s .args .words .now) 5 % 256)) (c .before .free-count .ensures ∙ free-told (s .args .words .now) sets h) (is-need p)
+    ap₂ (λ (x y : ℕ). ltb x (y + word (s .args .words .now) 5 % 256)) (c .before .free-count .ensures) (is-need p)
 
 pub is-full-spec : {M : Type 1} → statement M
 is-full-spec =

@@ -4,15 +4,11 @@ use borrow.Author.Needs.{needs}
 use mathlib.Core.Path.{_≡_, refl, sym, _∙_}
 use mathlib.Core.Bool.{Bool, true, false, cond}
 use borrow.Author.Tests.{lt-ltb, le-ltb, not-true, not-false}
-use mathlib.Core.List.{List, map}
-use Prim.Native.Nat.{ℕ}
-use lib.ListN.{length, take}
+use Prim.Native.Nat.{_/_}
+use lib.ListN.{take}
 use Rattle.rules.specs.Bits.{bit}
-use Rattle.rules.specs.Lists.{freeBelow}
 use Rattle.rules.specs.Receive.{Frame, accepted, dropped, judge, noRoom, stored}
-use Rattle.sets.specs.Views.{pagesOf}
-use Rattle.state.specs.View.{word, registersIn, figures}
-use Rattle.state.specs.Promise.{SetsIn}
+use Rattle.state.specs.View.{word, registersIn}
 use Rattle.receive.specs.Arrivals.{frameOf}
 use Rattle.receive.proofs.Facts.{dropped-by, judge-is}
 use Rattle.receive.proofs.judge.judged.Statement.{statement}
@@ -37,18 +33,18 @@ kept e =
     dropped-by (registersIn (s .args .words .now)) (the-frame s) ∙ sym (e .before .is-dropped .ensures) ∙ e .if4 .left
 
 returns : tie.Need-returns
-returns c sets h = sym (judge-is _ _ _ false _ _ _ _ (sym (c .before .is-set .ensures) ∙ not-true _ (c .if1 .taken)) refl refl refl refl)
+returns c = sym (judge-is _ _ _ false _ _ _ _ (sym (c .before .is-set .ensures) ∙ not-true _ (c .if1 .taken)) refl refl refl refl)
 
 returns-2 : tie.Need-returns-2
-returns-2 c sets h = sym (judge-is _ _ _ true false _ _ _ (enabled (c .before .before .before)) (sym (c .before .is-accepted .ensures) ∙ not-true _ (c .if2 .taken)) refl refl refl)
+returns-2 c = sym (judge-is _ _ _ true false _ _ _ (enabled (c .before .before .before)) (sym (c .before .is-accepted .ensures) ∙ not-true _ (c .if2 .taken)) refl refl refl)
 
 returns-3 : tie.Need-returns-3
-returns-3 c sets h =
+returns-3 c =
     let f = c .before in
     sym (judge-is _ _ _ true true true _ _ (enabled (f .before .before .before)) (welcome f) (lt-ltb _ _ (c .if3 .taken)) refl refl)
 
 returns-4 : tie.Need-returns-4
-returns-4 c sets h =
+returns-4 c =
     let g = c .before .before .before in
     let f = g .before in
     let e = f .before .before .before in
@@ -57,18 +53,18 @@ returns-4 c sets h =
 
 -- the last test is whether there is room
 by-room : (k : tie.After-is-full) (b : Bool) → k .is-full .result ≡ b → let s = start (k .before .before .before .before .before .before .before .before .before) in
-    (sets : List ℕ) → SetsIn (figures (s .args .words .now)) sets → judge (registersIn (s .args .words .now)) (length (freeBelow 24 (map pagesOf sets))) (the-frame s) ≡ cond b noRoom stored
-by-room k b e sets h =
+    judge (registersIn (s .args .words .now)) (word (s .args .words .now) 4 / 256) (the-frame s) ≡ cond b noRoom stored
+by-room k b e =
     let d = k .before in
     let g = d .before .before .before in
     let f = g .before in
-    judge-is _ _ _ true true false false b (enabled (f .before .before .before)) (welcome f) (le-ltb _ _ (g .if3 .left)) (kept d) (sym (k .is-full .ensures sets h) ∙ e)
+    judge-is _ _ _ true true false false b (enabled (f .before .before .before)) (welcome f) (le-ltb _ _ (g .if3 .left)) (kept d) (sym (k .is-full .ensures) ∙ e)
 
 returns-5 : tie.Need-returns-5
-returns-5 c sets h = sym (by-room (c .before) true (c .if5 .taken) sets h)
+returns-5 c = sym (by-room (c .before) true (c .if5 .taken))
 
 returns-6 : tie.Need-returns-6
-returns-6 c sets h = sym (by-room (c .before) false (c .if5 .left) sets h)
+returns-6 c = sym (by-room (c .before) false (c .if5 .left))
 
 pub judged-spec : {M : Type 1} → statement M
 judged-spec =

@@ -6,14 +6,15 @@ use mathlib.Core.List.{List, [], _∷_, _++_, map}
 use Prim.Native.Nat.{ℕ, _≤_, _<_}
 use native.Mathlib.Omega.{arith}
 use lib.ListN.{length, take}
-use Rattle.rules.specs.Lists.{freeBelow}
+use Rattle.rules.specs.Chip.{paged, freeFor}
 use Rattle.rules.specs.Fields.{setRx, inPool}
 use Rattle.rules.specs.Receive.{dataLength, needed}
 use Rattle.sets.specs.Views.{pagesOf}
 use Rattle.state.specs.View.{registersIn}
 use Rattle.pool.specs.Queues.{rejoins-chip, rejoins-sound}
 use Rattle.pool.specs.Pages.{repages-queues, repages-chip}
-use Rattle.receive.proofs.Facts.{data-by, needed-by}
+use Rattle.receive.specs.Storing.{data-by, needed-by, data-less, may-join, is-stowed}
+use Rattle.receive.specs.Storing as storable
 use Rattle.receive.proofs.Storing as storing
 use Rattle.receive.proofs.stow.stowed.Statement.{statement}
 use Rattle.receive.proofs.stow.stowed.Tie as tie
@@ -26,7 +27,7 @@ module _ (s : tie.Start) where
   lists = map pagesOf (s .args .sets .now)
 
   abbrev grant : List ℕ
-  grant = take (needed (registersIn (s .args .words .now)) len) (freeBelow 24 lists)
+  grant = take (needed (registersIn (s .args .words .now)) len) (freeFor paged lists)
 
 -- the numbers are those of the rules
 abbrev start : tie.After-data-length → tie.Start
@@ -36,10 +37,10 @@ is-data : (d : tie.After-data-length) → d .data-length .result ≡ dataLength 
 is-data d = d .data-length .ensures ∙ sym (data-by (registersIn (start d .args .words .now)) _)
 
 data-few : (d : tie.After-data-length) → d .data-length .result ≤ 1532
-data-few d = omega (arith, is-data d, storing.data-few (start d .pre .0))
+data-few d = omega (arith, is-data d, storable.data-few (start d .pre .0))
 
 number-small : (l : tie.After-lowest-unallocated) → l .lowest-unallocated .result < 24
-number-small l = omega (arith, l .lowest-unallocated .ensures, storing.number-small (start (l .before .before) .pre .0))
+number-small l = omega (arith, l .lowest-unallocated .ensures, storable.number-small (start (l .before .before) .pre .0))
 
 -- where the packet number and the data length are known
 abbrev number : tie.After-pages-for → tie.After-lowest-unallocated
@@ -60,14 +61,14 @@ grant-requires p κs =
 
 -- the pages are the grant
 is-granted : (g : tie.After-grant) → pagesOf (g .grant .result) ≡ grant (start (length-told (g .before)))
-is-granted g = g .grant .ensures .0 ∙ ap (λ (j : ℕ). take j (freeBelow 24 (lists (start (length-told (g .before)))))) (is-need (g .before))
+is-granted g = g .grant .ensures .0 ∙ ap (λ (j : ℕ). take j (freeFor paged (lists (start (length-told (g .before)))))) (is-need (g .before))
 
 store-frame-requires : tie.Need-store-frame-requires
 store-frame-requires c κs =
     let g = c .before .before .before .before .before .before .before in
     let d = length-told (g .before) in
     let s = start d in
-    (omega (arith, is-data d, storing.data-less (s .pre .0)), rw (is-data d) (storing.room (s .pre .0) _ _ (is-granted g) (s .pre .1)))
+    (omega (arith, is-data d, data-less (s .pre .0)), rw (is-data d) (storing.room (s .pre .0) _ _ (is-granted g) (s .pre .1)))
 
 join-rx-requires : tie.Need-join-rx-requires
 join-rx-requires c κs =
@@ -75,7 +76,7 @@ join-rx-requires c κs =
     let s = start (length-told (g .before)) in
     let t = s .pre .0 in
     let a = g .grant .ensures .1 in
-    let m = storing.may-join t a _ (number (g .before) .lowest-unallocated .ensures) in
+    let m = may-join t a _ (number (g .before) .lowest-unallocated .ensures) in
     (a .kept, repages-queues a (s .args .queues .now) (t .ready .sound .queues), m .0, m .1)
 
 returns : tie.Need-returns
@@ -90,9 +91,9 @@ returns c =
     let mem = s .args .memory .now in
     let a = g .grant .ensures .1 in
     record {
-      chip = rejoins-chip (u .join-rx .ensures) (g .grant .last .1 .0) (f .store-frame .last .0)
+      chip = rejoins-chip (u .join-rx .ensures) paged (g .grant .last .1 .0) (f .store-frame .last .0)
           ∙ ap (inPool (λ x. setRx (x .rx ++ (number p .lowest-unallocated .result ∷ [])) x)) (repages-chip a (s .args .queues .now) (f .store-frame .last .0))
-          ∙ storing.is-stowed (s .pre .0) mem _ _ _ (number p .lowest-unallocated .ensures) (is-need p)
+          ∙ is-stowed (s .pre .0) mem _ _ _ (number p .lowest-unallocated .ensures) (is-need p)
           (storing.written (s .pre .0) mem _ _ _ _ _ (f .store-frame .ensures) (t .status-of .ensures) (f .before .count-of .ensures) (is-data d) (is-granted g));
       reply = refl;
       sound = rejoins-sound (u .join-rx .ensures) (a .sets);

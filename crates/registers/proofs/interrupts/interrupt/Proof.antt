@@ -15,7 +15,7 @@ unfolding wordOf
 returns c =
     let s = c .before .before .before in
     let m = s .pre .0 .fixed .maskLow in
-    λ sets q mem h. let e = c .before .status .ensures .0 sets q mem h in omega arith
+    λ l sets q mem h. let e = c .before .status .ensures .0 l sets q mem h in omega arith
 
 pub interrupt-spec : {M : Type 1} → statement M
 interrupt-spec = tie.close (tie.spec (λ c κs. search needs) (λ c. search needs) add-result returns)

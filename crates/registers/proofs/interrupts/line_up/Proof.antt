@@ -16,7 +16,7 @@ returns c =
     let s = c .before .before .before in
     let mask = word (s .args .words .now) 22 / 256 in
     let e = c .before .status .ensures in
-    λ sets q mem h. shared (c .before .status .result) mask 8 (omega (arith, e .1)) ∙ ap (λ (x : ℕ). share 8 x mask) (e .0 sets q mem h)
+    λ l sets q mem h. shared (c .before .status .result) mask 8 (omega (arith, e .1)) ∙ ap (λ (x : ℕ). share 8 x mask) (e .0 l sets q mem h)
 
 pub line-up-spec : {M : Type 1} → statement M
 line-up-spec = tie.close (tie.spec (λ c κs. search needs) (λ c. search needs) returns)

@@ -1,5 +1,5 @@
 -- The words, then the pool with its figures, then RCR.
-use Rattle.registers.proofs.Reset.{soft, soft-long}
+use Rattle.registers.specs.Power.{soft, soft-long}
 use borrow.Author.Needs.{needs}
 use Rattle.registers.proofs.resets.soft_reset.Statement.{statement}
 use Rattle.registers.proofs.resets.soft_reset.Tie as tie

@@ -2,7 +2,7 @@
 use mathlib.Core.Path.{sym, _∙_}
 use Rattle.state.specs.Promise.{does-makes}
 use Rattle.state.specs.Writes.{writes-rcr}
-use Rattle.registers.proofs.Reset.{rcr-resets}
+use Rattle.registers.specs.Power.{rcr-resets}
 use borrow.Author.Needs.{needs}
 use Rattle.registers.proofs.resets.write_rcr.Statement.{statement}
 use Rattle.registers.proofs.resets.write_rcr.Tie as tie

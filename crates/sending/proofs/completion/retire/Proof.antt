@@ -1,7 +1,8 @@
 -- The packet's pages are given back, or only completion changes.
 use borrow.Author.Needs.{needs}
 use Rattle.pool.specs.Queues.{rejoins-chip, rejoins-sound}
-use Rattle.sending.proofs.Facts.{gives-back}
+use Rattle.rules.specs.Chip.{paged}
+use Rattle.sending.specs.After.{gives-back}
 use Rattle.sending.proofs.completion.retire.Statement.{statement}
 use Rattle.sending.proofs.completion.retire.Tie as tie
 
@@ -23,7 +24,7 @@ returns-2 c =
     let i = j .before .before .before in
     let s = i .before .before .before .before in
     let e = j .join-completion .ensures in
-    rw (i .if1 .left) (record { chip = rejoins-chip e (s .args .sets .now); sound = rejoins-sound e (s .pre .1 .sets) })
+    rw (i .if1 .left) (record { chip = rejoins-chip e paged (s .args .sets .now); sound = rejoins-sound e (s .pre .1 .sets) })
 
 pub retire-spec : {M : Type 1} → statement M
 retire-spec =

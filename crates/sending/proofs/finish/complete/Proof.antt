@@ -3,11 +3,10 @@ use borrow.Author.Needs.{needs}
 use mathlib.Core.Path.{ap, _∙_}
 use mathlib.Core.List.{[]}
 use native.Mathlib.Omega.{arith}
-use Rattle.rules.specs.Chip.{Chip}
+use Rattle.rules.specs.Chip.{paged, Chip}
 use Rattle.packet.proofs.Facts.{room-less}
 use Rattle.pool.specs.Pages.{waits-few}
-use Rattle.sending.proofs.Facts.{same-completion, completes}
-use Rattle.sending.proofs.Head.{head-small}
+use Rattle.sending.specs.After.{same-completion, completes, head-small}
 use Rattle.sending.proofs.finish.complete.Statement.{statement}
 use Rattle.sending.proofs.finish.complete.Tie as tie
 
@@ -31,7 +30,7 @@ retire-requires c κs =
       record { kept = e .1 .kept; queues = e .1 .queues; sets = record { many = o .sets .many; free = e .1 .free ∙ o .sets .free; small = o .sets .small } },
       s .pre .0 .well .pages,
       λ f. omega (arith, s .pre .4 f, same-completion (e .1) (o .queues)),
-      omega (arith, waits-few (s .pre .0), ap (λ (c : Chip). c .regs .numbers .waiting) (e .1 .chip [] [])),
+      omega (arith, waits-few (s .pre .0), ap (λ (c : Chip). c .regs .numbers .waiting) (e .1 .chip paged [] [])),
     )
 
 returns : tie.Need-returns

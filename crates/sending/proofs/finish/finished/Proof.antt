@@ -10,9 +10,8 @@ use Rattle.rules.specs.Bits.{bit}
 use Rattle.rules.specs.Chip.{Chip}
 use Rattle.rules.specs.Send.{Send, inLimits}
 use Rattle.state.specs.View.{word, view}
-use Rattle.sending.proofs.Facts.{refuses, sends-as}
-use Rattle.sending.proofs.Head.{within-few}
-use Rattle.sending.proofs.Laws.{short-output, outside, not-enabled, nothing-queued, head-sent}
+use Rattle.sending.specs.After.{within-few, refuses, sends-as}
+use Rattle.sending.specs.Laws.{short-output, outside, not-enabled, nothing-queued, head-sent}
 use Rattle.sending.proofs.finish.finished.Statement.{statement}
 use Rattle.sending.proofs.finish.finished.Tie as tie
 

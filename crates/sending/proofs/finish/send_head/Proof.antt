@@ -18,9 +18,9 @@ use Rattle.packet.specs.Room.{Room}
 use Rattle.state.specs.View.{word, registersIn, view}
 use Rattle.pool.specs.Queues.{head-told}
 use Rattle.sending.specs.Numbers.{sendOf}
-use Rattle.sending.proofs.Facts.{refuses, refuses-with, sends-as}
+use Rattle.sending.specs.After.{refuses, refuses-with, sends-as}
 use Rattle.sending.proofs.Head.{pages-few, room}
-use Rattle.sending.proofs.Laws.{Usable, odd-count, short-count, long-count, completion-full, finishes, sends-all}
+use Rattle.sending.specs.Laws.{Usable, odd-count, short-count, long-count, completion-full, finishes, sends-all}
 use Rattle.sending.proofs.finish.send_head.Statement.{statement}
 use Rattle.sending.proofs.finish.send_head.Tie as tie
 

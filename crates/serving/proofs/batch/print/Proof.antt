@@ -4,6 +4,7 @@ use mathlib.Core.Path.{_≡_}
 use Prim.Native.Nat.{_≤_}
 use native.Mathlib.Omega.{arith}
 use borrow.Author.Tests.{not-true, not-false}
+use Rattle.rules.specs.Chip.{paged}
 use Rattle.lists.specs.Written.{writes-as}
 use Rattle.serving.proofs.Forms.{plain-line, watched-line, wide-plain, wide-watched}
 use Rattle.serving.proofs.batch.print.Statement.{statement}
@@ -33,7 +34,7 @@ returns-2 c =
     let w = not-false (s .args .watching) (c .before .before .before .before .before .if1 .left) in
     let p = c .before .before .before .before .before .before .printed .ensures in
     let e = c .before .before .watched-at .ensures in (
-      λ sets q mem wire event h k. writes-as (watched-line (s .args .counter .number) event _ (p .0) (p .1) w (c .before .before .before .before .line-up .ensures sets q mem h) k) (e .0),
+      λ sets q mem wire event h k. writes-as (watched-line (s .args .counter .number) event _ (p .0) (p .1) w (c .before .before .before .before .line-up .ensures paged sets q mem h) k) (e .0),
       omega (arith, wide-watched w, e .1, s .pre .1 .1),
     )
 

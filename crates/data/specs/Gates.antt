@@ -7,7 +7,7 @@ use native.Mathlib.Omega.{arith}
 use borrow.Author.Tests.{lt-ltb}
 use lib.ListN.{length, drop, List·getD-eq-default}
 use Rattle.rules.specs.Lists.{member, some?}
-use Rattle.rules.specs.Chip.{Chip, pagesAt}
+use Rattle.rules.specs.Chip.{Layout, Chip, pagesAt}
 use Rattle.rules.specs.Answers.{Reply, Effect, refuse}
 use Rattle.rules.specs.Answers as rules
 use Rattle.rules.specs.WellFormed.{WellFormed}
@@ -17,13 +17,13 @@ use Rattle.lists.specs.Facts.{or-left, or-right, member-first, member-later}
 use Rattle.lists.specs.Bytes.{Below, place-room}
 use Rattle.state.specs.declared.Answer.{Answer}
 use Rattle.state.specs.Meaning.{replyOf}
-use Rattle.state.specs.View.{word, view}
-use Rattle.state.specs.Promise.{Ready, Makes}
+use Rattle.state.specs.View.{word, viewOf}
+use Rattle.state.specs.Promise.{ReadyOf, Ready, MakesOf}
 use Rattle.data.specs.declared.Gate.the-variants.{Open, Refused}
-use Rattle.data.specs.Access.{headOr24, meantBy, pagesMeant, refusalOf, ifAny, unlessPast, Stands, Guards, Room}
+use Rattle.data.specs.Access.{headOr24, meantBy, pagesMeantOf, pagesMeant, refusalIf, refusalOf, ifAny, unlessPast, Stands, Guards, Room}
 
 -- The tests in their order, where the last holds if no other does.
-in-order : (n a o q : Bool) (k : ℕ) (c : Chip) (s : Effect) → (a || o ≡ false → q ≡ true)
+pub in-order : (n a o q : Bool) (k : ℕ) (c : Chip) (s : Effect) → (a || o ≡ false → q ≡ true)
     → cond (not n) (refuse k c) (cond a (refuse 8 c) (cond o (refuse 9 c) (cond q (refuse 10 c) s))) ≡ refuse (cond (not n) k (cond a 8 (cond o 9 10))) c
 in-order false a o q k c s h = refl
 in-order true true o q k c s h = refl
@@ -34,7 +34,7 @@ module _ (isRead : Bool) (p : ℕ) (pages : List ℕ) (none : Bool) where
   -- A gate that refuses: there is no such page, or refusal 8 or 9 stands before.
   pub refuses : (a : Answer) → replyOf a ≡ rules.refusal (refusalOf isRead p pages) → none || (against isRead p || oddFixed p) ≡ true
       → (none ≡ true → length pages ≤ address p / 256) → Guards isRead p pages (Refused a)
-  unfolding ifAny refusalOf past
+  unfolding ifAny refusalIf past
   refuses a e t h width c s some =
       in-order (some? pages) (against isRead p) (oddFixed p) _ (cond (rcv p) 7 5) c s (λ f. lt-ltb (256 * length pages) (address p + width) (omega (arith, h (left none f t))))
       ∙ ap (λ (r : Reply). record { reply = r; chip = c }) (sym e)
@@ -72,24 +72,25 @@ module _ (c : Chip) (w : WellFormed c) (access : List ℕ → Effect) where
       go false = refl
       go true = by-head (c .pool .rx) refl
 
-module _ {w s q : List ℕ} (k : Ready w s q) (mem : List ℕ) where
+module _ {l : Layout} {w s q : List ℕ} (k : ReadyOf l w s q) (mem : List ℕ) where
   pub enters : (isRead : Bool) (width : ℕ) (f : List ℕ → Effect)
-      → ifPacket (view w s q mem) (λ pages. ifOpen isRead width pages (view w s q mem) (f pages))
-      ≡ ifAny isRead width (word w 19) (pagesMeant w s q) (view w s q mem) (f (pagesMeant w s q))
+      → ifPacket (viewOf l w s q mem) (λ pages. ifOpen isRead width pages (viewOf l w s q mem) (f pages))
+      ≡ ifAny isRead width (word w 19) (pagesMeantOf l w s q) (viewOf l w s q mem) (f (pagesMeantOf l w s q))
   unfolding ifAny ifOpen
-  enters isRead width f = by-meant (view w s q mem) (k .well) (λ pages. ifOpen isRead width pages (view w s q mem) (f pages))
+  enters isRead width f = by-meant (viewOf l w s q mem) (k .well) (λ pages. ifOpen isRead width pages (viewOf l w s q mem) (f pages))
 
   -- So it is what the gate says.
-  pub stopped : (isRead : Bool) (width : ℕ) (f : List ℕ → Effect) (a : Answer) → Guards isRead (word w 19) (pagesMeant w s q) (Refused a) → 0 < width
-      → Makes (ifPacket (view w s q mem) (λ pages. ifOpen isRead width pages (view w s q mem) (f pages))) a w s q mem
+  pub stopped : (isRead : Bool) (width : ℕ) (f : List ℕ → Effect) (a : Answer) → Guards isRead (word w 19) (pagesMeantOf l w s q) (Refused a) → 0 < width
+      → MakesOf l (ifPacket (viewOf l w s q mem) (λ pages. ifOpen isRead width pages (viewOf l w s q mem) (f pages))) a w s q mem
   stopped isRead width f a g some = rw (enters isRead width f ∙ g width _ _ some) (record { chip = refl; reply = refl; sound = k .sound })
 
-  pub passed : (isRead : Bool) (width : ℕ) (f : List ℕ → Effect) {at rest : ℕ} {a : Answer} {w′ mem′ : List ℕ} → Guards isRead (word w 19) (pagesMeant w s q) (Open at rest)
-      → Makes (unlessPast width (word w 19) (pagesMeant w s q) (view w s q mem) (f (pagesMeant w s q))) a w′ s q mem′
-      → Makes (ifPacket (view w s q mem) (λ pages. ifOpen isRead width pages (view w s q mem) (f pages))) a w′ s q mem′
+  pub passed : (isRead : Bool) (width : ℕ) (f : List ℕ → Effect) {at rest : ℕ} {a : Answer} {w′ mem′ : List ℕ} → Guards isRead (word w 19) (pagesMeantOf l w s q) (Open at rest)
+      → MakesOf l (unlessPast width (word w 19) (pagesMeantOf l w s q) (viewOf l w s q mem) (f (pagesMeantOf l w s q))) a w′ s q mem′
+      → MakesOf l (ifPacket (viewOf l w s q mem) (λ pages. ifOpen isRead width pages (viewOf l w s q mem) (f pages))) a w′ s q mem′
   passed isRead width f g m = rw (enters isRead width f ∙ g .1 width _ _) m
 
-  -- The bytes of an access that may go on lie in the memory.
+-- The bytes of an access that may go on lie in the memory: with page sets.
+module _ {w s q : List ℕ} (k : Ready w s q) (mem : List ℕ) where
   pub room : {at rest : ℕ} → length mem ≡ 6144 → Stands (pagesMeant w s q) (word w 19) at rest → Room w mem at rest
   room {at} {rest} full h =
       let below : Below 24 (pagesMeant w s q) = k .well .pages .within _ in

@@ -8,6 +8,7 @@ use borrow.Author.Tests.{lt-ltb, le-ltb}
 use lib.ListN.{length, getD, set, drop, length-drop}
 use lib.Seq.{getD-drop}
 use Rattle.rules.specs.Bits.{lowByte, highByte, wordOf}
+use Rattle.rules.specs.Chip.{Layout}
 use Rattle.rules.specs.Fields.{inMemory}
 use Rattle.rules.specs.Answers.{Effect}
 use Rattle.rules.specs.Packet.{place, getBytes, putBytes}
@@ -17,8 +18,8 @@ use Rattle.sets.specs.Views.{pagesOf}
 use Rattle.sets.specs.Pages.{rest-none, rest-goes, rest-first}
 use Rattle.state.specs.declared.Answer.the-variants.{Done, PastPages}
 use Rattle.state.specs.Meaning.{replyOf}
-use Rattle.state.specs.View.{word, view}
-use Rattle.state.specs.Promise.{Sets, sets-chip, sets-sound, Sound, Makes}
+use Rattle.state.specs.View.{word, viewOf}
+use Rattle.state.specs.Promise.{Sets, sets-chip, sets-sound, SoundOf, MakesOf}
 use Rattle.data.specs.Access.{bytesFor, unlessPast, readBehind, writeBehind, Stands, moves}
 
 module _ {pages : List ℕ} {p at rest : ℕ} (h : Stands pages p at rest) where
@@ -84,19 +85,19 @@ unfolding putBytes
 two-written mem pages a v l h f g = rw (l, h, f, g)
 
 -- The effect: refusal 10, and nothing changes; or the value, or the bytes written, and the pointer moved.
-module _ (width : ℕ) (pages w s q mem : List ℕ) (o : Sound w s q) where
-  pub is-past : (e : Effect) → past width (word w 19) pages ≡ true → Makes (unlessPast width (word w 19) pages (view w s q mem) e) PastPages w s q mem
+module _ {l : Layout} (width : ℕ) (pages w s q mem : List ℕ) (o : SoundOf l w s q) where
+  pub is-past : (e : Effect) → past width (word w 19) pages ≡ true → MakesOf l (unlessPast width (word w 19) pages (viewOf l w s q mem) e) PastPages w s q mem
   unfolding unlessPast
   is-past e t = rw t (record { chip = refl; reply = refl; sound = o })
 
   module _ {w′ : List ℕ} (t : past width (word w 19) pages ≡ false) (m : Sets (moves width) w w′) where
-    pub reads : (v : ℕ) → v ≡ valueOf (getBytes width (address (word w 19)) pages mem) → Makes (readBehind width pages (view w s q mem)) (Done v) w′ s q mem
+    pub reads : (v : ℕ) → v ≡ valueOf (getBytes width (address (word w 19)) pages mem) → MakesOf l (readBehind width pages (viewOf l w s q mem)) (Done v) w′ s q mem
     unfolding unlessPast
-    reads v e = rw t (record { chip = sets-chip m s q mem; reply = ap (λ (v : ℕ). replyOf (Done v)) e; sound = sets-sound m o })
+    reads v e = rw t (record { chip = sets-chip m l s q mem; reply = ap (λ (v : ℕ). replyOf (Done v)) e; sound = sets-sound m o })
 
 -- The same of bytes that are written: memory mem′ after it.
-pub writes : (bytes pages w s q mem : List ℕ) {w′ mem′ : List ℕ} → Sound w s q → past (length bytes) (word w 19) pages ≡ false → Sets (moves (length bytes)) w w′
-    → mem′ ≡ putBytes bytes (address (word w 19)) pages mem → Makes (writeBehind bytes pages (view w s q mem)) (Done 0) w′ s q mem′
+pub writes : {l : Layout} (bytes pages w s q mem : List ℕ) {w′ mem′ : List ℕ} → SoundOf l w s q → past (length bytes) (word w 19) pages ≡ false → Sets (moves (length bytes)) w w′
+    → mem′ ≡ putBytes bytes (address (word w 19)) pages mem → MakesOf l (writeBehind bytes pages (viewOf l w s q mem)) (Done 0) w′ s q mem′
 unfolding unlessPast
-writes bytes pages w s q mem {w′} {mem′} o t m e =
-    rw (t, e) (record { chip = ap (inMemory (putBytes bytes (address (word w 19)) pages)) (sets-chip m s q mem); reply = refl; sound = sets-sound m o })
+writes {l} bytes pages w s q mem o t m e =
+    rw (t, e) (record { chip = ap (inMemory (putBytes bytes (address (word w 19)) pages)) (sets-chip m l s q mem); reply = refl; sound = sets-sound m o })

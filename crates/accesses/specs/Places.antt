@@ -1,10 +1,11 @@
--- The last arm. For a read: what is left of the 64 places is data below 22, and unused above. For a write, which has arms for the unused: what is left is data.
+-- Which register stands at a place: data, and what is left of the 64 places for the last arm of a table, which is unused.
 use mathlib.Core.Path.{_≡_, refl, ap, sym}
 use mathlib.Core.Bool.{Bool, true, false, _&&_, _||_, true≢false}
 use mathlib.Core.List.{List, []}
 use Prim.Native.Nat.{ℕ, _+_, _-_, _*_, _/_, _%_, _≤_, _<_}
 use native.Mathlib.Omega.{arith}
-use borrow.Author.Tests.{leb-true, ltb-true, eqb-true, ne-eqb, le-ltb, lt-leb}
+use native.Mathlib.Decide.{ℕ-discrete}
+use borrow.Author.Tests.{leb-true, ltb-true, ne-eqb}
 use lib.Dec.{eqb, leb, ltb}
 use lib.ListN.{getD, take, drop, replicate, getD-replicate}
 use lib.Seq.{getD-take, getD-drop}
@@ -31,9 +32,9 @@ at-unused at l h n =
     let half : at % 8 * 2 / 2 ≡ at % 8 = omega arith in
     rw (half, ne-eqb (at % 8) 7 (omega arith), ← row) (getD-replicate 7 (at % 8) UNUSED ABSENT n)
 
-pub unused-left : (arms : List (List ℕ)) → passed (λ (k : ℕ). inSome k arms || (ltb k 22 || inUnused k)) 64 ≡ true → (at : ℕ) → at < 64 → 22 ≤ at → Left arms at → registerIn at ≡ UNUSED
+pub unused-left : (arms : List (List ℕ)) → passed (λ (k : ℕ). inSome k arms || (eqb (k / 2) 10 || inUnused k)) 64 ≡ true → (at : ℕ) → at < 64 → (at / 2 ≡ 10 → ⊥) → Left arms at → registerIn at ≡ UNUSED
 unused-left arms e at h m l =
-    let t = right-of (ltb at 22) (inUnused at) (le-ltb at 22 m) (left-over (λ (k : ℕ). ltb k 22 || inUnused k) arms 64 e at h l) in
+    let t = right-of (eqb (at / 2) 10) (inUnused at) (ne-eqb (at / 2) 10 m) (left-over (λ (k : ℕ). eqb (k / 2) 10 || inUnused k) arms 64 e at h l) in
     at-unused at (leb-true _ _ (left-true (leb 40 at) (ltb (at % 8) 7) t)) h (ltb-true _ _ (right-true (leb 40 at) (ltb (at % 8) 7) t))
   where
     right-of : (a b : Bool) → a ≡ false → a || b ≡ true → b ≡ true
@@ -41,21 +42,10 @@ unused-left arms e at h m l =
     right-of false b x y = y
 
 -- bank 2, offsets 8 to B
-abbrev inData : ℕ → Bool
-inData at = eqb at 20 || eqb at 21
-
-pub data-left : (arms : List (List ℕ)) → passed (λ (k : ℕ). inSome k arms || (leb 22 k || inData k)) 64 ≡ true → (at : ℕ) → at < 22 → Left arms at → registerIn at ≡ DATA
+pub at-data : (at : ℕ) → at / 2 ≡ 10 → registerIn at ≡ DATA
 unfolding registerIn registerAt
-data-left arms e at h l = go (eqb at 20) refl (left-over (λ (k : ℕ). leb 22 k || inData k) arms 64 e at (omega arith) l)
+at-data at e = go (ℕ-discrete at 20)
   where
-    go : (b : Bool) → eqb at 20 ≡ b → leb 22 at || (b || eqb at 21) ≡ true → registerIn at ≡ DATA
-    go true x y = ap registerIn (eqb-true at 20 x)
-    go false x y = ap registerIn (eqb-true at 21 (rw (lt-leb 22 at h) at y))
-
-pub data-alone : (arms : List (List ℕ)) → passed (λ (k : ℕ). inSome k arms || inData k) 64 ≡ true → (at : ℕ) → at < 64 → Left arms at → registerIn at ≡ DATA
-unfolding registerIn registerAt
-data-alone arms e at h l = go (eqb at 20) refl (left-over inData arms 64 e at h l)
-  where
-    go : (b : Bool) → eqb at 20 ≡ b → b || eqb at 21 ≡ true → registerIn at ≡ DATA
-    go true x y = ap registerIn (eqb-true at 20 x)
-    go false x y = ap registerIn (eqb-true at 21 y)
+    go : Dec (at ≡ 20) → registerIn at ≡ DATA
+    go (yes x) = ap registerIn x
+    go (no x) = ap registerIn (let y : at ≡ 21 = omega (arith, e, x) in y)

@@ -7,13 +7,13 @@ use borrow.Author.Tests.{lt-ltb, le-ltb}
 use lib.Dec.{ltb}
 use lib.ListN.{length, getD, drop}
 use Rattle.rules.specs.Bits.{bit}
-use Rattle.rules.specs.Chip.{Chip, pagesAt}
+use Rattle.rules.specs.Chip.{Layout, Chip, pagesAt}
 use Rattle.rules.specs.Answers.{Turn, refused, refusedWith, over}
 use Rattle.lists.specs.Facts.{no-head, head-and-rest}
 use Rattle.rules.specs.Send.{Send, inLimits, byteCount, good, putOut, autoRelease, noPlace, sendHead, ifUsable, ifSendable, byTxHead, finish}
 use Rattle.state.specs.declared.Answer.the-variants as answer
 use Rattle.state.specs.Meaning.{replyOf}
-use Rattle.sending.specs.Sends.{Sends, PutsOut, completed, Completes, headSent}
+use Rattle.sending.specs.Sends.{SendsOf, PutsOut, completed, CompletesOf, headSent}
 
 module _ (s : Send) (c : Chip) (out : List ℕ) where
   pub short-output : length out < 2048 → finish s c out ≡ refused 15 c out
@@ -95,8 +95,8 @@ module _ (s : Send) (c : Chip) (out : List ℕ) where
       finishes f = usable ∙ rw f (sym (ap₂ done p same-count))
 
   -- what is put out, and what is done to the chip, are what a send does
-  pub sends-all : (count : ℕ) {w s′ q mem out′ pages : List ℕ} {n : ℕ} {released g : Bool} → released ≡ autoRelease isGood (c .regs) → g ≡ isGood
-      → PutsOut (putOut (c .regs .sending .tcr) count pages (c .memory)) out out′ n → Completes released g s pages c w s′ q mem → Sends (done pages count) (answer.Done n) w s′ q mem out′
+  pub sends-all : {l : Layout} (count : ℕ) {w s′ q mem out′ pages : List ℕ} {n : ℕ} {released g : Bool} → released ≡ autoRelease isGood (c .regs) → g ≡ isGood
+      → PutsOut (putOut (c .regs .sending .tcr) count pages (c .memory)) out out′ n → CompletesOf l released g s pages c w s′ q mem → SendsOf l (done pages count) (answer.Done n) w s′ q mem out′
   sends-all count {pages = pages} e f p d = record {
     chip = d .chip ∙ ap₂ (λ (b i : Bool). completed b i s pages c) e f;
     reply = ap (λ (i : ℕ). replyOf (answer.Done i)) (p .value);

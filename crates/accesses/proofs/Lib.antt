@@ -1,3 +1,0 @@
--- Proofs that belong to no one function.
-pub mod Places
-pub mod Reach

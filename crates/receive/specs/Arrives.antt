@@ -1,0 +1,30 @@
+-- An arrival goes by its length and its verdict.
+use mathlib.Core.Path.{_≡_, refl}
+use mathlib.Core.List.{List}
+use Prim.Native.Nat.{ℕ, _/_, _≤_, _<_}
+use borrow.Author.Tests.{lt-ltb, le-ltb}
+use lib.ListN.{length}
+use Rattle.rules.specs.Chip.{Layout}
+use Rattle.rules.specs.Answers.{doneWith, refuse}
+use Rattle.rules.specs.Receive.{Frame, valueFor, after, judge, arrive}
+use Rattle.state.specs.declared.Answer.{Answer}
+use Rattle.state.specs.Meaning.{replyOf}
+use Rattle.state.specs.View.{word, registersIn, viewOf}
+use Rattle.state.specs.Promise.{ReadyOf, MakesOf}
+use Rattle.pool.specs.Pages.{free-told}
+use Rattle.receive.specs.declared.Verdict.{Verdict}
+use Rattle.receive.specs.Arrivals.{arrivalOf}
+
+module _ {l : Layout} {w s q : List ℕ} (r : ReadyOf l w s q) (mem : List ℕ) where
+  pub refuses : (f : Frame) → length (f .bytes) < 18 → arrive f (viewOf l w s q mem) ≡ refuse 11 (viewOf l w s q mem)
+  unfolding arrive
+  refuses f h = rw (lt-ltb _ _ h)
+
+  pub goes : (f : Frame) → 18 ≤ length (f .bytes) → (v : Verdict) → arrivalOf v ≡ judge (registersIn w) (word w 4 / 256) f
+      → arrive f (viewOf l w s q mem) ≡ doneWith (valueFor (arrivalOf v)) (after (arrivalOf v) f (viewOf l w s q mem))
+  unfolding arrive
+  goes f h v e = rw (le-ltb _ _ h, ← free-told w s (r .sound .sets), ← e)
+
+  -- nothing changes but the answer
+  pub stays : (a : Answer) → MakesOf l (record { reply = replyOf a; chip = viewOf l w s q mem }) a w s q mem
+  stays a = record { chip = refl; reply = refl; sound = r .sound }
