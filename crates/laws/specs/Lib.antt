@@ -30,3 +30,21 @@ pub mod Loads
 pub mod Merge
 pub mod Needed
 pub mod Meanwhile
+-- Document 02, W3, the chip of strips beside the paged one: which bytes are written, and the promise.
+pub mod Written
+pub mod Strips
+-- Packets of two chips that stay alike, whatever their layouts: bytes put and read, how many pages each has, pages given back and granted.
+pub mod Placed
+pub mod SameCounts
+pub mod Packets
+-- Each input on two chips beside each other.
+pub mod Beside
+pub mod BesideCommands
+pub mod BesideData
+pub mod BesideRegisters
+pub mod BesideFrames
+pub mod BesideSends
+-- The promise, from power-up on; why it asks what it asks, and a history that it is about.
+pub mod StripsAlike
+pub mod StripsNeeded
+pub mod StripsUsed
