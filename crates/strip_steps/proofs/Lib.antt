@@ -1,0 +1,2 @@
+-- What the proofs of an arrival share.
+pub mod Storing

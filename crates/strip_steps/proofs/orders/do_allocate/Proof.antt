@@ -1,0 +1,61 @@
+-- Where enough pages are free the request is granted; else it waits, and the result is 80h.
+use mathlib.Core.Path.{_≡_, _∙_}
+use native.Mathlib.Omega.{arith}
+use borrow.Author.Needs.{needs}
+use lib.ListN.{length}
+use Rattle.rules.specs.Chip.{strips, freeFor}
+use Rattle.rules.specs.Mmu as rules
+use Rattle.state.specs.View.{stripsFrom, viewOf}
+use Rattle.state.specs.Promise.{sets-chip, sets-sound}
+use Rattle.pool.specs.Pages.{alters-sound, free-told}
+use Rattle.commands.specs.Steps.{allocates, allocates-none}
+use Rattle.commands.specs.Returns.{performs}
+use Rattle.strip_steps.proofs.orders.do_allocate.Statement.{statement}
+use Rattle.strip_steps.proofs.orders.do_allocate.Tie as tie
+
+-- the free pages that the words count are those of the chip
+counted : (c : tie.After-free-count) → let ls = stripsFrom 0 (c .before .before .before .before .args .counts .now) in c .free-count .result ≡ length (freeFor strips ls)
+counted c =
+    let s = c .before .before .before .before in
+    c .free-count .ensures ∙ free-told (s .args .words .now) (s .args .counts .now) (s .pre .3)
+
+allocate-requires : tie.Need-allocate-requires
+allocate-requires c κs =
+    let s = c .before .before .before .before .before .before .before in
+    (s .pre .2, s .pre .3, s .pre .4, s .pre .0, s .pre .1, omega (arith, c .before .before .before .free-count .ensures, free-told (s .args .words .now) (s .args .counts .now) (s .pre .3), c .before .before .if1 .taken))
+
+returns : tie.Need-returns
+returns c = λ q h mem.
+    let s = c .before .before .before .before .before .before .before .before .before .before .before .before in
+    let w = s .args .words .now in
+    let ss = s .args .counts .now in
+    let n = s .args .need in
+    let a = c .before .before .before .before .allocate .ensures in
+    performs (rules.allocate n) w ss q mem (rules.grant n) (allocates (viewOf strips w ss q mem) n (omega (arith, counted (c .before .before .before .before .before .before .before .before), c .before .before .before .before .before .before .before .if1 .taken))) (a .chip q mem) (alters-sound a q h)
+
+cast-give-result : tie.Need-cast-give-result
+cast-give-result c = record { fits = omega (arith, c .before .before .before .before .before .before .pre .1) }
+
+returns-2 : tie.Need-returns-2
+returns-2 c = λ q h mem.
+    let s = c .before .before .before .before .before .before .before .before .before in
+    let w = s .args .words .now in
+    let ss = s .args .counts .now in
+    let n = s .args .need in
+    let g = c .before .before .give-result .ensures in
+    performs (rules.allocate n) w ss q mem (rules.pend n) (allocates-none (viewOf strips w ss q mem) n (omega (arith, counted (c .before .before .before .before .before), c .before .before .before .before .if1 .left)))
+    (sets-chip g strips ss q mem) (sets-sound g (record { kept = s .pre .2; queues = h; sets = s .pre .3 }))
+
+pub do-allocate-spec : {M : Type 1} → statement M
+do-allocate-spec =
+    tie.close
+    (tie.spec
+    (λ c κs. search needs)
+    allocate-requires
+    (λ c. search needs)
+    (λ c. search needs)
+    returns
+    cast-give-result
+    (λ c κs. search needs)
+    (λ c. search needs)
+    returns-2)

@@ -1,0 +1,4 @@
+-- What the steps of the chip of strips rest on.
+pub mod Data
+pub mod Ready
+pub mod Sends

@@ -1,0 +1,68 @@
+// A frame arrives. What becomes of it is judged as on the chip of pages, by the registers and the frame alone.
+use receive::Verdict;
+use receive::aborted;
+use receive::count_of;
+use receive::data_length;
+use receive::judged;
+use receive::overrun;
+use receive::pages_for;
+use receive::status_of;
+use state::Answer;
+use state::RCR;
+ghost use mathlib.Core.Path.{_≡_};
+ghost use lib.ListN.{length};
+ghost use Rattle.rules.specs.Chip.{strips};
+ghost use Rattle.rules.specs.Answers.{doneWith};
+ghost use Rattle.rules.specs.Receive.{stow, arrive};
+ghost use Rattle.state.specs.View.{viewOf};
+ghost use Rattle.state.specs.Promise.{ReadyOf, MakesOf};
+ghost use Rattle.receive.specs.Arrivals.{frameOf, StowableOf};
+
+// A frame that is stored takes the lowest unallocated number, and of that number's strip as many pages as it needs; the number goes to the end of RX.
+fn stowed(
+    words: &mut [u16],
+    counts: &mut [u32],
+    queues: &mut [u8],
+    memory: &mut [u8],
+    frame: &[u8],
+    bad_crc: bool,
+    alignment: bool,
+) -> Answer
+    requires { ⌜ StowableOf strips (now words) (now counts) (now queues) (frameOf (now frame) «bad_crc» alignment) × (length (now memory) ≡ 49152) ⌝ }
+    ensures { λ a. ⌜ MakesOf strips (doneWith 0 (stow (frameOf (now (frame .entry)) «bad_crc» alignment) (viewOf strips (now (words .entry)) (now (counts .entry)) (now (queues .entry)) (now (memory .entry))))) a (now (words .exit)) (now (counts .exit)) (now (queues .exit)) (now (memory .exit)) ⌝ }
+{
+    let n = data_length(words[RCR], frame.len());
+    let packet = strips::lowest_unallocated(counts);
+    strips::grant(words, counts, packet, pages_for(n));
+    let status = status_of(frame, n, bad_crc, alignment);
+    strip_bytes::store_frame(memory, packet, status, count_of(n), frame, n);
+    pool::join_rx(words, queues, packet);
+    Answer::Done(0)
+}
+
+// A frame arrives at a chip that is well formed: its bytes with FCS, and two flags.
+pub fn arrived(
+    words: &mut [u16],
+    counts: &mut [u32],
+    queues: &mut [u8],
+    memory: &mut [u8],
+    frame: &[u8],
+    bad_crc: bool,
+    alignment: bool,
+) -> Answer
+    requires { ⌜ ReadyOf strips (now words) (now counts) (now queues) × (length (now memory) ≡ 49152) ⌝ }
+    ensures { λ a. ⌜ MakesOf strips (arrive (frameOf (now (frame .entry)) «bad_crc» alignment) (viewOf strips (now (words .entry)) (now (counts .entry)) (now (queues .entry)) (now (memory .entry)))) a (now (words .exit)) (now (counts .exit)) (now (queues .exit)) (now (memory .exit)) ⌝ }
+{
+    if frame.len() < 18 {
+        return Answer::OutsideLimits;
+    }
+    let verdict = judged(words, frame, bad_crc, alignment);
+    match verdict {
+        Verdict::Stored => stowed(words, counts, queues, memory, frame, bad_crc, alignment),
+        Verdict::Disabled => Answer::Done(1),
+        Verdict::NotAccepted => Answer::Done(2),
+        Verdict::TooLong => aborted(words, 3),
+        Verdict::Bad => Answer::Done(4),
+        Verdict::NoRoom => overrun(words, 5),
+    }
+}

@@ -1,0 +1,72 @@
+// Reads and writes of the sixteen I/O addresses: what looks at no pages is read and written by the tables of `accesses`.
+use crate::access::read_data;
+use crate::access::write_data;
+use crate::orders::write_command;
+use crate::resets::write_rcr;
+use state::Answer;
+use state::COMMAND;
+use state::RCR;
+use state::Width;
+ghost use mathlib.Core.Path.{_≡_};
+ghost use lib.ListN.{length};
+ghost use Rattle.rules.specs.Chip.{strips};
+ghost use Rattle.rules.specs.Registers as rules;
+ghost use Rattle.state.specs.Meaning.{widthOf};
+ghost use Rattle.state.specs.View.{viewOf};
+ghost use Rattle.state.specs.Promise.{ReadyOf, MakesOf};
+
+// A read: of data, or of another register.
+pub fn read(
+    words: &mut [u16],
+    counts: &[u32],
+    queues: &[u8],
+    memory: &[u8],
+    width: Width,
+    offset: u8,
+) -> Answer
+    requires { ⌜ ReadyOf strips (now words) (now counts) (now queues) × (length (now memory) ≡ 49152) ⌝ }
+    ensures { λ a. ⌜ MakesOf strips (rules.access (rules.read (widthOf width) offset) (viewOf strips (now (words .entry)) (now (counts .entry)) (now (queues .entry)) (now (memory .entry)))) a (now (words .exit)) (now (counts .entry)) (now (queues .entry)) (now (memory .entry)) ⌝ }
+{
+    if state::misplaced(width, offset) {
+        return Answer::Misplaced;
+    }
+    let at = accesses::place(words, offset);
+    if accesses::is_data(at) {
+        return read_data(words, counts, queues, memory, accesses::is_wide(width));
+    }
+    accesses::read_register(words, queues, at, width, offset)
+}
+
+// A write: to data, to one of the two registers that may free or grant pages, or to another.
+pub fn write(
+    words: &mut [u16],
+    counts: &mut [u32],
+    queues: &mut [u8],
+    memory: &mut [u8],
+    width: Width,
+    offset: u8,
+    value: u16,
+) -> Answer
+    requires { ⌜ ReadyOf strips (now words) (now counts) (now queues) × (length (now memory) ≡ 49152) ⌝ }
+    ensures { λ a. ⌜ MakesOf strips (rules.access (rules.write (widthOf width) offset value) (viewOf strips (now (words .entry)) (now (counts .entry)) (now (queues .entry)) (now (memory .entry)))) a (now (words .exit)) (now (counts .exit)) (now (queues .exit)) (now (memory .exit)) ⌝ }
+{
+    if state::misplaced(width, offset) {
+        return Answer::Misplaced;
+    }
+    let at = accesses::place(words, offset);
+    if accesses::is_data(at) {
+        return write_data(
+            words,
+            counts,
+            queues,
+            memory,
+            accesses::is_wide(width),
+            value,
+        );
+    }
+    match at {
+        RCR => write_rcr(words, counts, queues, width, offset, value),
+        COMMAND => write_command(words, counts, queues, width, offset, value),
+        _ => accesses::write_register(words, queues, at, width, offset, value),
+    }
+}
