@@ -1,7 +1,8 @@
 //! "Bench program and its records".
 
-use crate::chip::Chip;
+use crate::chip::ChipOn;
 use crate::frame::Flags;
+use crate::memory::{Layout, Paged, Strips};
 use crate::refusal::Refusal;
 use crate::registers::Width;
 use crate::send::{SendEnd, OUTPUT_SIZE};
@@ -70,24 +71,30 @@ impl Gathered {
 
 /// The chip with what surrounds it on the bench.
 #[derive(Clone, Debug)]
-pub struct Bench {
-    pub chip: Chip,
+pub struct BenchOn<L> {
+    pub chip: ChipOn<L>,
     pub gathered: Gathered,
     /// Bytes put out by sends; the bench's lines leave them out.
     pub output: [u8; OUTPUT_SIZE],
 }
 
-impl Default for Bench {
+/// The bench of document 01's chip.
+pub type Bench = BenchOn<Paged>;
+
+/// The bench of request W3's chip.
+pub type StripBench = BenchOn<Strips>;
+
+impl<L: Layout> Default for BenchOn<L> {
     fn default() -> Self {
         Self {
-            chip: Chip::default(),
+            chip: ChipOn::default(),
             gathered: Gathered::default(),
             output: [0; OUTPUT_SIZE],
         }
     }
 }
 
-impl Bench {
+impl<L: Layout> BenchOn<L> {
     /// Obeys one whole record. "Unused bytes are ignored."
     pub fn step(&mut self, record: &Record) -> Answer {
         let [kind, first, second, third, ..] = *record;

@@ -2,7 +2,7 @@
 
 use crate::address::MacAddress;
 use crate::fifo::Fifo;
-use crate::memory::{Memory, PacketAddress, PacketNumber, PageMap};
+use crate::memory::{Layout, PacketAddress, PacketNumber, Paged, Strips};
 
 /// Bits of TCR that have a rule.
 pub mod tcr {
@@ -145,18 +145,25 @@ impl Default for Registers {
     }
 }
 
-/// The whole chip, at power-up by default.
+/// The whole chip, at power-up by default. Its rules are the same wherever the
+/// packets' bytes lie.
 #[derive(Clone, Debug, Default)]
-pub struct Chip {
+pub struct ChipOn<L> {
     pub registers: Registers,
-    pub packets: PageMap,
+    /// Which packets there are, with their bytes.
+    pub packets: L,
     pub rx: Fifo,
     pub tx: Fifo,
     pub completion: Fifo,
-    pub memory: Memory,
 }
 
-impl Chip {
+/// Document 01's chip.
+pub type Chip = ChipOn<Paged>;
+
+/// Request W3: "A straight-strip chip beside the paged one."
+pub type StripChip = ChipOn<Strips>;
+
+impl<L: Layout> ChipOn<L> {
     /// "resets everything except the station address and packet memory; RCR
     /// then reads 8000h".
     pub fn soft_reset(&mut self) {

@@ -1,8 +1,8 @@
 //! "A frame arrives".
 
 use crate::address::MacAddress;
-use crate::chip::{control, rcr, Chip};
-use crate::memory::PAGE_SIZE;
+use crate::chip::{control, rcr, ChipOn};
+use crate::memory::{Layout, PAGE_SIZE};
 use crate::refusal::Refusal;
 
 /// "Under 18 bytes: refusal 11."
@@ -64,7 +64,7 @@ pub fn pages_needed(n: usize) -> usize {
     byte_count(n).div_ceil(PAGE_SIZE)
 }
 
-impl Chip {
+impl<L: Layout> ChipOn<L> {
     /// `frame` holds the bytes with FCS.
     pub fn arrive(&mut self, frame: &[u8], flags: Flags) -> Result<Arrival, Refusal> {
         if frame.len() < LEAST {
@@ -141,8 +141,7 @@ impl Chip {
         image[2..4].copy_from_slice(&(count as u16).to_le_bytes());
         image[HEADER..HEADER + n].copy_from_slice(&frame[..n]);
         image[count - 1] = if n.is_multiple_of(2) { 0x40 } else { 0x60 };
-        self.memory
-            .fill(self.packets.pages(packet), &image[..count]);
+        self.packets.fill(packet, &image[..count]);
         self.rx.push(packet);
     }
 }

@@ -14,6 +14,7 @@ pub mod memory;
 pub mod mmu;
 pub mod places;
 pub mod random;
+pub mod reads;
 pub mod refusal;
 pub mod registers;
 pub mod send;

@@ -1,4 +1,16 @@
-//! Packet memory: "24 pages of 256 bytes, 6,144 in all", and who owns which page.
+//! Packet memory: packets by number, bytes by address, and what a chip needs of
+//! the place where they lie. `Paged` is document 01's chip, `Strips` the one of
+//! request W3.
+
+mod marked;
+mod paged;
+mod strips;
+
+use std::fmt::Debug;
+
+pub use marked::Marked;
+pub use paged::{PageNumber, Paged};
+pub use strips::{Strips, STRIP_SIZE};
 
 pub const PAGES: usize = 24;
 pub const PAGE_SIZE: usize = 256;
@@ -29,175 +41,72 @@ impl PacketNumber {
     }
 }
 
-/// A page of the packet memory, 0 to 23.
-#[derive(Clone, Copy, Debug, Default, PartialEq, Eq)]
-pub struct PageNumber(u8);
-
-impl PageNumber {
-    fn start(self) -> usize {
-        usize::from(self.0) * PAGE_SIZE
-    }
-
-    pub fn get(self) -> u8 {
-        self.0
-    }
-}
-
 /// A byte's place within its packet, 0 to 2,047.
 #[derive(Clone, Copy, Debug, PartialEq, Eq)]
 pub struct PacketAddress(pub u16);
 
 impl PacketAddress {
-    /// Which of the packet's pages holds the byte, and where in that page.
-    fn split(self) -> (usize, usize) {
-        let address = usize::from(self.0);
-        (address / PAGE_SIZE, address % PAGE_SIZE)
-    }
-
     fn plus(self, bytes: u16) -> Self {
         Self(self.0 + bytes)
     }
 }
 
-/// The pages of one packet, in ascending order; none when it is not allocated.
-#[derive(Clone, Copy, Debug, Default)]
-struct PageList {
-    pages: [PageNumber; MOST_PAGES],
-    len: usize,
-}
+/// Where packets' bytes lie, and how many pages each packet has. All that does
+/// not ask where a byte lies is here, once for every layout.
+pub trait Layout: Clone + Debug + Default {
+    fn free_pages(&self) -> usize;
 
-impl PageList {
-    fn as_slice(&self) -> &[PageNumber] {
-        &self.pages[..self.len]
-    }
+    /// 1 to 8 for a packet that is allocated, else 0.
+    fn page_count(&self, packet: PacketNumber) -> usize;
 
-    fn push(&mut self, page: PageNumber) {
-        self.pages[self.len] = page;
-        self.len += 1;
-    }
-}
+    /// Allocates the packet; the caller has seen that so many pages are free.
+    fn take(&mut self, packet: PacketNumber, pages: usize);
 
-/// Which pages each packet owns.
-#[derive(Clone, Debug, Default)]
-pub struct PageMap([PageList; PACKETS]);
+    /// "Bytes of freed pages stay."
+    fn release(&mut self, packet: PacketNumber);
 
-impl PageMap {
-    pub fn pages(&self, packet: PacketNumber) -> &[PageNumber] {
-        self.0[packet.index()].as_slice()
-    }
+    fn byte(&self, packet: PacketNumber, address: PacketAddress) -> u8;
 
-    pub fn is_allocated(&self, packet: PacketNumber) -> bool {
-        !self.pages(packet).is_empty()
+    fn set_byte(&mut self, packet: PacketNumber, address: PacketAddress, byte: u8);
+
+    /// Copies the packet's bytes from `address` on.
+    fn copy_out(&self, packet: PacketNumber, address: PacketAddress, out: &mut [u8]);
+
+    /// Fills the packet from address 0; "Later bytes of the last page stay".
+    fn fill(&mut self, packet: PacketNumber, image: &[u8]);
+
+    fn is_allocated(&self, packet: PacketNumber) -> bool {
+        self.page_count(packet) > 0
     }
 
     /// The packet's size in bytes.
-    pub fn size(&self, packet: PacketNumber) -> usize {
-        self.pages(packet).len() * PAGE_SIZE
+    fn size(&self, packet: PacketNumber) -> usize {
+        self.page_count(packet) * PAGE_SIZE
     }
 
-    pub fn free_pages(&self) -> usize {
-        PAGES - self.0.iter().map(|list| list.len).sum::<usize>()
-    }
-
-    /// "done exactly when that many are free": "the lowest unallocated number,
-    /// and pages are the lowest free ones".
-    pub fn grant(&mut self, wanted: usize) -> Option<PacketNumber> {
+    /// "done exactly when that many are free": "the lowest unallocated number".
+    fn grant(&mut self, wanted: usize) -> Option<PacketNumber> {
         if self.free_pages() < wanted {
             return None;
         }
         let packet = PacketNumber::all().find(|&packet| !self.is_allocated(packet))?;
-        let taken = self.taken();
-        let mut list = PageList::default();
-        (0..PAGES as u8)
-            .filter(|&page| !taken[usize::from(page)])
-            .take(wanted)
-            .for_each(|page| list.push(PageNumber(page)));
-        self.0[packet.index()] = list;
+        self.take(packet, wanted);
         Some(packet)
     }
 
-    pub fn release(&mut self, packet: PacketNumber) {
-        self.0[packet.index()] = PageList::default();
+    fn release_all(&mut self) {
+        PacketNumber::all().for_each(|packet| self.release(packet));
     }
 
-    pub fn release_all(&mut self) {
-        *self = Self::default();
+    /// "A word takes two bytes, lower first", each found on its own.
+    fn word(&self, packet: PacketNumber, address: PacketAddress) -> u16 {
+        let bytes = [address, address.plus(1)].map(|at| self.byte(packet, at));
+        u16::from_le_bytes(bytes)
     }
 
-    fn taken(&self) -> [bool; PAGES] {
-        let mut taken = [false; PAGES];
-        for page in self.0.iter().flat_map(|list| list.as_slice()) {
-            taken[usize::from(page.0)] = true;
-        }
-        taken
-    }
-}
-
-/// "At power-up the memory is 6,144 zero bytes." Nothing ever clears it.
-#[derive(Clone, Debug)]
-pub struct Memory([u8; PAGES * PAGE_SIZE]);
-
-impl Default for Memory {
-    fn default() -> Self {
-        Self([0; PAGES * PAGE_SIZE])
-    }
-}
-
-impl Memory {
-    /// All of it, page after page.
-    pub fn bytes(&self) -> &[u8] {
-        &self.0
-    }
-
-    pub fn byte(&self, pages: &[PageNumber], address: PacketAddress) -> u8 {
-        self.0[Self::place(pages, address)]
-    }
-
-    pub fn set_byte(&mut self, pages: &[PageNumber], address: PacketAddress, byte: u8) {
-        self.0[Self::place(pages, address)] = byte;
-    }
-
-    /// "A word takes two bytes, lower first", each found through its own page.
-    pub fn word(&self, pages: &[PageNumber], address: PacketAddress) -> u16 {
-        u16::from_le_bytes([self.byte(pages, address), self.byte(pages, address.plus(1))])
-    }
-
-    pub fn set_word(&mut self, pages: &[PageNumber], address: PacketAddress, word: u16) {
+    fn set_word(&mut self, packet: PacketNumber, address: PacketAddress, word: u16) {
         let [low, high] = word.to_le_bytes();
-        self.set_byte(pages, address, low);
-        self.set_byte(pages, address.plus(1), high);
-    }
-
-    /// Copies the packet's bytes from `address` on, page by page.
-    pub fn copy_out(&self, pages: &[PageNumber], address: PacketAddress, out: &mut [u8]) {
-        let (first, mut offset) = address.split();
-        let mut rest = out;
-        for page in &pages[first..] {
-            let take = rest.len().min(PAGE_SIZE - offset);
-            let (now, later) = rest.split_at_mut(take);
-            now.copy_from_slice(&self.page(*page)[offset..offset + take]);
-            rest = later;
-            offset = 0;
-        }
-    }
-
-    /// Fills the packet from address 0; "Later bytes of the last page stay".
-    pub fn fill(&mut self, pages: &[PageNumber], image: &[u8]) {
-        for (page, part) in pages.iter().zip(image.chunks(PAGE_SIZE)) {
-            self.page_mut(*page)[..part.len()].copy_from_slice(part);
-        }
-    }
-
-    fn place(pages: &[PageNumber], address: PacketAddress) -> usize {
-        let (page, offset) = address.split();
-        pages[page].start() + offset
-    }
-
-    fn page(&self, page: PageNumber) -> &[u8] {
-        &self.0[page.start()..][..PAGE_SIZE]
-    }
-
-    fn page_mut(&mut self, page: PageNumber) -> &mut [u8] {
-        &mut self.0[page.start()..][..PAGE_SIZE]
+        self.set_byte(packet, address, low);
+        self.set_byte(packet, address.plus(1), high);
     }
 }

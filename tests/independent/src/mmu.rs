@@ -1,7 +1,7 @@
 //! "MMU commands".
 
-use crate::chip::Chip;
-use crate::memory::PacketNumber;
+use crate::chip::ChipOn;
+use crate::memory::{Layout, PacketNumber};
 use crate::refusal::Refusal;
 
 #[derive(Clone, Copy, Debug, PartialEq, Eq)]
@@ -34,7 +34,7 @@ impl Command {
     }
 }
 
-impl Chip {
+impl<L: Layout> ChipOn<L> {
     /// "No command touches a latch."
     pub fn command(&mut self, value: u8) -> Result<(), Refusal> {
         match Command::decode(value)? {

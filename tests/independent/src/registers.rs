@@ -1,7 +1,7 @@
 //! Accesses: the register map, and what reading and writing each register does.
 
-use crate::chip::{ephsr, interrupt, rcr, tcr, Chip, Pointer};
-use crate::memory::{PacketNumber, PAGES};
+use crate::chip::{ephsr, interrupt, rcr, tcr, ChipOn, Pointer};
+use crate::memory::{Layout, PacketAddress, PacketNumber, PAGES};
 use crate::refusal::Refusal;
 
 /// What reads as nothing in particular: byte F, B of bank 0, banks 5 to 7.
@@ -115,6 +115,7 @@ impl Lanes {
     }
 
     /// "a word write skips its read-only half"; 3 when nothing is left.
+    #[inline] // for every write comes here
     fn onto(self, register: Register) -> Result<Self, Refusal> {
         let (low, high) = register.writable();
         let lanes = Self {
@@ -151,7 +152,7 @@ fn check_offset(width: Width, offset: u8) -> Result<(), Refusal> {
     Ok(())
 }
 
-impl Chip {
+impl<L: Layout> ChipOn<L> {
     /// A register read; a byte comes back in the low half.
     pub fn read(&mut self, width: Width, offset: u8) -> Result<u16, Refusal> {
         check_offset(width, offset)?;
@@ -280,13 +281,23 @@ impl Chip {
         self.registers.ephsr &= !ephsr::COUNTER_ROLL;
     }
 
+    /// Where a read of the data register finds its first byte, if it is done.
+    pub fn data_read(&self, width: Width, offset: u8) -> Option<(PacketNumber, PacketAddress)> {
+        check_offset(width, offset).ok()?;
+        let register = Register::decode(self.registers.bank, offset).ok()?;
+        if register != Register::Data {
+            return None;
+        }
+        let packet = self.data_packet(width, true).ok()?;
+        Some((packet, self.registers.pointer.address()))
+    }
+
     fn read_data(&mut self, width: Width) -> Result<u16, Refusal> {
         let packet = self.data_packet(width, true)?;
-        let pages = self.packets.pages(packet);
         let address = self.registers.pointer.address();
         let value = match width {
-            Width::Byte => u16::from(self.memory.byte(pages, address)),
-            Width::Word => self.memory.word(pages, address),
+            Width::Byte => u16::from(self.packets.byte(packet, address)),
+            Width::Word => self.packets.word(packet, address),
         };
         self.advance(width);
         Ok(value)
@@ -294,11 +305,10 @@ impl Chip {
 
     fn write_data(&mut self, width: Width, value: u16) -> Result<(), Refusal> {
         let packet = self.data_packet(width, false)?;
-        let pages = self.packets.pages(packet);
         let address = self.registers.pointer.address();
         match width {
-            Width::Byte => self.memory.set_byte(pages, address, value as u8),
-            Width::Word => self.memory.set_word(pages, address, value),
+            Width::Byte => self.packets.set_byte(packet, address, value as u8),
+            Width::Word => self.packets.set_word(packet, address, value),
         }
         self.advance(width);
         Ok(())

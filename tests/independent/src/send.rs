@@ -1,8 +1,8 @@
 //! "A send finishes".
 
 use crate::address::MacAddress;
-use crate::chip::{control, ephsr, tcr, Chip};
-use crate::memory::{PacketAddress, PacketNumber};
+use crate::chip::{control, ephsr, tcr, ChipOn};
+use crate::memory::{Layout, PacketAddress, PacketNumber};
 use crate::refusal::Refusal;
 
 /// The longest data of a packet fits with room to spare.
@@ -108,6 +108,17 @@ impl Verdict {
     }
 }
 
+/// A send that nothing stands against.
+#[derive(Clone, Copy, Debug)]
+struct Due {
+    packet: PacketNumber,
+    /// How many bytes of data.
+    data: usize,
+    verdict: Verdict,
+    /// "Good with control bit 11: the packet is released."
+    releases: bool,
+}
+
 /// "ECR nibbles, lowest first".
 #[derive(Clone, Copy, Debug)]
 enum Counter {
@@ -159,33 +170,53 @@ fn destination_bits(destination: MacAddress) -> u16 {
     }
 }
 
-impl Chip {
+impl<L: Layout> ChipOn<L> {
     /// Ends the send of the TX head; "The value is the length put out; all
     /// other output bytes stay, and failed sends put out the same bytes."
     pub fn send(&mut self, end: SendEnd, output: &mut [u8; OUTPUT_SIZE]) -> Result<u16, Refusal> {
+        let due = self.due(end)?;
+        let length = self.put_out(due.packet, due.data, output);
+        self.note_end(end, due.verdict, MacAddress::leading(output));
+        self.write_status(due.packet); // before its pages can be granted anew
+        self.tx.pop();
+        if due.releases {
+            self.give_back(due.packet);
+        } else {
+            self.completion.push(due.packet);
+        }
+        // "TX EMPTY is set if TX is now empty."
+        self.registers.tx_empty |= self.tx.is_empty();
+        Ok(length as u16)
+    }
+
+    /// The TX head, for which 12 does not hold: "TXENA clear, or TX FIFO empty".
+    pub fn head_to_send(&self) -> Result<PacketNumber, Refusal> {
         if self.registers.tcr & tcr::TXENA == 0 {
             return Err(Refusal::NothingToSend);
         }
-        let packet = self.tx.head().ok_or(Refusal::NothingToSend)?;
+        self.tx.head().ok_or(Refusal::NothingToSend)
+    }
+
+    /// How many bytes of data a send that is done puts out.
+    pub fn data_to_send(&self, end: SendEnd) -> Result<usize, Refusal> {
+        self.due(end).map(|due| due.data)
+    }
+
+    /// The send of the TX head, or why it is refused: "12, 13, 18, 19, 14".
+    fn due(&self, end: SendEnd) -> Result<Due, Refusal> {
+        let packet = self.head_to_send()?;
         let data = self.data_length(packet)?;
         let verdict = Verdict::new(end.outcome, self.registers.tcr);
         let releases = verdict.is_good() && self.registers.control & control::AUTO_RELEASE != 0;
         if !releases && self.completion.is_full() {
             return Err(Refusal::CompletionFull);
         }
-
-        let length = self.put_out(packet, data, output);
-        self.note_end(end, verdict, MacAddress::leading(output));
-        self.write_status(packet); // before its pages can be granted anew
-        self.tx.pop();
-        if releases {
-            self.give_back(packet);
-        } else {
-            self.completion.push(packet);
-        }
-        // "TX EMPTY is set if TX is now empty."
-        self.registers.tx_empty |= self.tx.is_empty();
-        Ok(length as u16)
+        Ok(Due {
+            packet,
+            data,
+            verdict,
+            releases,
+        })
     }
 
     /// "Data: from 4, c − 5 bytes if bit 5 of the byte at c − 1 is set, else c − 6."
@@ -194,15 +225,14 @@ impl Chip {
             return Err(fault);
         }
         let count = self.byte_count(packet);
-        let pages = self.packets.pages(packet);
-        let control = self.memory.byte(pages, PacketAddress(count - 1));
+        let control = self.packets.byte(packet, PacketAddress(count - 1));
         let around = if control & CONTROL_ODD != 0 { 5 } else { 6 };
         Ok(usize::from(count) - around)
     }
 
     /// "Count c at addresses 2 and 3, low byte first", usable or not.
     pub fn byte_count(&self, packet: PacketNumber) -> u16 {
-        self.memory.word(self.packets.pages(packet), COUNT_AT)
+        self.packets.word(packet, COUNT_AT)
     }
 
     /// All that is wrong with it: "13 odd, 18 under 12, 19 past the pages; in
@@ -222,8 +252,7 @@ impl Chip {
 
     /// Copies the data out, padded if TCR says so, and gives the length.
     fn put_out(&self, packet: PacketNumber, data: usize, output: &mut [u8; OUTPUT_SIZE]) -> usize {
-        let pages = self.packets.pages(packet);
-        self.memory.copy_out(pages, DATA_AT, &mut output[..data]);
+        self.packets.copy_out(packet, DATA_AT, &mut output[..data]);
         if self.registers.tcr & tcr::PAD_EN == 0 || data >= PADDED {
             return data;
         }
@@ -252,7 +281,7 @@ impl Chip {
 
     /// "EPHSR is written to addresses 0 and 1."
     fn write_status(&mut self, packet: PacketNumber) {
-        let pages = self.packets.pages(packet);
-        self.memory.set_word(pages, STATUS_AT, self.registers.ephsr);
+        self.packets
+            .set_word(packet, STATUS_AT, self.registers.ephsr);
     }
 }

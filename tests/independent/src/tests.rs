@@ -2,8 +2,10 @@
 
 mod counts;
 mod streams;
+mod strips;
 mod waiting;
 mod watch;
+mod written;
 
 use crate::address::MacAddress;
 use crate::bench::{numbers, push_line, Bench, Record};

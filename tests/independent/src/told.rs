@@ -66,7 +66,7 @@ fn push_record(lines: &mut Vec<u8>, number: u64, kind: u8, answer: Answer, bench
     push_seen(lines, number, answer, chip);
     let _ = write!(lines, " {state}");
     if answer.is_ok() && (kind == 6 || kind == 7) {
-        let _ = write!(lines, " {}", sum_bytes(chip.memory.bytes()));
+        let _ = write!(lines, " {}", sum_bytes(chip.packets.bytes()));
     }
     if let Some(bytes) = bench.put_out(kind, answer) {
         let _ = write!(lines, " {} ", sum_bytes(&bench.output));
@@ -105,6 +105,6 @@ pub fn tell(records: &[Record]) -> String {
     push_numbers(&mut lines, "registers", &registers(&bench.chip.registers));
     push_numbers(&mut lines, "pool", &pool(&bench.chip));
     push_bytes(&mut lines, "output", &bench.output);
-    push_bytes(&mut lines, "memory", bench.chip.memory.bytes());
+    push_bytes(&mut lines, "memory", bench.chip.packets.bytes());
     String::from_utf8(lines).expect("names and digits")
 }

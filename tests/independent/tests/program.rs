@@ -49,12 +49,14 @@ fn answers_each_before_the_next(arguments: &[&str], kinds_and_lines: [(u8, &str)
 fn answers_each_record_before_the_next() {
     let bench = [(2, "1 0 3300\n"), (9, "2 17 0000\n"), (1, "3 0 0000\n")];
     answers_each_before_the_next(&[], bench);
+    answers_each_before_the_next(&["--strips"], bench);
     let watch = [
         (2, "1 0 3300 0\n"),
         (9, "2 17 0000 0\n"),
         (1, "3 0 0000 0\n"),
     ];
     answers_each_before_the_next(&["--watch"], watch);
+    answers_each_before_the_next(&["--watch", "--strips"], watch);
 }
 
 /// "record cut short": one line, whether 1 or 7 bytes are left.
@@ -62,8 +64,12 @@ fn answers_each_record_before_the_next() {
 fn a_tail_is_one_line() {
     for tail in 1..8 {
         let input = [&[2, 8, 0, 0, 0, 0, 0, 0], &[1; 7][..tail]].concat();
-        assert_eq!(lines(&[], &input), "1 0 1818\n2 17 0000\n");
-        assert_eq!(lines(&["--watch"], &input), "1 0 1818 0\n2 17 0000 0\n");
+        for bench in [&[][..], &["--strips"]] {
+            assert_eq!(lines(bench, &input), "1 0 1818\n2 17 0000\n");
+        }
+        for watch in [&["--watch"][..], &["--strips", "--watch"]] {
+            assert_eq!(lines(watch, &input), "1 0 1818 0\n2 17 0000 0\n");
+        }
     }
 }
 
@@ -118,17 +124,23 @@ fn no_record_is_no_line() {
 
 #[test]
 fn other_arguments_get_the_usage() {
-    let unexpected: [&[&str]; 5] = [
+    let unexpected: [&[&str]; 8] = [
         &[""],
         &["watch"],
         &["--watch=1"],
         &["--watch", "--watch"],
+        &["--strips", "--strips"],
+        &["--watch", "--strips", "--watch"],
+        &["--strip"],
         &["records", "--watch"],
     ];
     for arguments in unexpected {
         let output = run(arguments, b"");
         assert_eq!(output.status.code(), Some(2), "{arguments:?}");
         assert_eq!(output.stdout, b"");
-        assert_eq!(output.stderr, b"usage: independent [--watch] < records\n");
+        assert_eq!(
+            output.stderr,
+            b"usage: independent [--strips] [--watch] < records\n"
+        );
     }
 }

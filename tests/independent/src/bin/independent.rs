@@ -1,27 +1,52 @@
-//! `independent [--watch] < records`: the bench, a line for each record; with
-//! `--watch` the lines of the program "watch".
+//! `independent [--strips] [--watch] < records`: the bench, a line for each
+//! record; with `--watch` the lines of the program "watch", with `--strips` from
+//! the chip of request W3.
 
 use std::ffi::OsString;
 use std::io::{self, Read, Write};
 use std::process::ExitCode;
 
-use independent::bench::{self, Answer, Bench, Record, RECORD_SIZE};
+use independent::bench::{self, Answer, BenchOn, Record, RECORD_SIZE};
+use independent::memory::{Layout, Paged, Strips};
 use independent::refusal::Refusal;
 use independent::watch;
 
 /// Records taken in one read when the input has that many.
 const BATCH: usize = 8_192;
 
-fn main() -> ExitCode {
-    let arguments: Vec<OsString> = std::env::args_os().skip(1).collect();
-    let (input, output) = (io::stdin().lock(), io::stdout().lock());
-    let ended = match &arguments[..] {
-        [] => run(input, output, push_bench_line),
-        [option] if option == "--watch" => run(input, output, watch::push_line),
-        _ => {
-            eprintln!("usage: independent [--watch] < records");
-            return ExitCode::from(2);
+/// Which of the options are given.
+#[derive(Clone, Copy, Default)]
+struct Options {
+    strips: bool,
+    watch: bool,
+}
+
+impl Options {
+    /// In any order, none of them twice.
+    fn parse(arguments: impl Iterator<Item = OsString>) -> Option<Self> {
+        let mut options = Self::default();
+        for argument in arguments {
+            let option = match argument.to_str()? {
+                "--strips" => &mut options.strips,
+                "--watch" => &mut options.watch,
+                _ => return None,
+            };
+            if std::mem::replace(option, true) {
+                return None;
+            }
         }
+        Some(options)
+    }
+}
+
+fn main() -> ExitCode {
+    let Some(options) = Options::parse(std::env::args_os().skip(1)) else {
+        eprintln!("usage: independent [--strips] [--watch] < records");
+        return ExitCode::from(2);
+    };
+    let ended = match options.strips {
+        true => run_on::<Strips>(options.watch),
+        false => run_on::<Paged>(options.watch),
     };
     match ended {
         Ok(()) => ExitCode::SUCCESS,
@@ -32,19 +57,28 @@ fn main() -> ExitCode {
     }
 }
 
-fn push_bench_line(lines: &mut Vec<u8>, number: u64, _kind: u8, answer: Answer, _: &Bench) {
+/// Runs the chip of a layout on the standard input.
+fn run_on<L: Layout>(watch: bool) -> io::Result<()> {
+    let (input, output) = (io::stdin().lock(), io::stdout().lock());
+    match watch {
+        true => run::<L>(input, output, watch::push_line),
+        false => run::<L>(input, output, push_bench_line),
+    }
+}
+
+fn push_bench_line<L>(lines: &mut Vec<u8>, number: u64, _: u8, answer: Answer, _: &BenchOn<L>) {
     bench::push_line(lines, number, answer);
 }
 
 /// Answers every whole record at hand, then reads again: so each is answered
 /// before the program blocks, and a file is still taken in large pieces.
 /// `push` appends a record's line: number, kind, answer, the bench after it.
-fn run(
+fn run<L: Layout>(
     mut input: impl Read,
     mut output: impl Write,
-    push: impl Fn(&mut Vec<u8>, u64, u8, Answer, &Bench),
+    push: impl Fn(&mut Vec<u8>, u64, u8, Answer, &BenchOn<L>),
 ) -> io::Result<()> {
-    let mut bench = Bench::default();
+    let mut bench = BenchOn::<L>::default();
     let mut records: u64 = 0;
     let mut buffer = vec![0; BATCH * RECORD_SIZE];
     let mut held = 0;

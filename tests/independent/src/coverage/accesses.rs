@@ -3,6 +3,7 @@
 use super::tables::{Part, Tables};
 use super::{commands, data, Seen};
 use crate::chip::{ephsr, interrupt, rcr, tcr, Chip, Registers};
+use crate::memory::Layout;
 
 pub fn count(tables: &mut Tables, seen: &Seen) {
     let [kind, offset, value, ..] = *seen.record;
@@ -103,7 +104,7 @@ fn count_reset(tables: &mut Tables, before: &Chip) {
         ("completion", !before.completion.is_empty()),
         (
             "memory",
-            before.memory.bytes().iter().any(|&byte| byte != 0),
+            before.packets.bytes().iter().any(|&byte| byte != 0),
         ),
     ];
     for (name, _) in set.into_iter().filter(|(_, holds)| *holds) {

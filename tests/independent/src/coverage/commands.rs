@@ -3,7 +3,7 @@
 use super::tables::{Part, Tables};
 use super::{answer_name, in_pieces, Seen};
 use crate::chip::Chip;
-use crate::memory::PacketNumber;
+use crate::memory::{Layout, PacketNumber};
 use crate::refusal::Refusal;
 
 pub fn count(tables: &mut Tables, seen: &Seen, value: u8) {
@@ -89,7 +89,7 @@ fn packet_meets(seen: &Seen) -> Vec<&'static str> {
             (before.tx.is_empty(), "TX empty"),
             (!before.tx.is_empty(), "TX not empty"),
             (
-                in_range.map(|packet| before.packets.pages(packet).len()) > Some(1),
+                in_range.map(|packet| before.packets.page_count(packet)) > Some(1),
                 "several pages",
             ),
         ]),

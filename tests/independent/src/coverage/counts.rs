@@ -5,7 +5,7 @@ use super::tables::{Part, Tables};
 use super::Seen;
 use crate::bench::numbers;
 use crate::chip::Chip;
-use crate::memory::PacketNumber;
+use crate::memory::{Layout, PacketNumber};
 
 /// What came before, for a record shows a single step.
 #[derive(Default)]

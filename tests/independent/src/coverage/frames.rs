@@ -6,7 +6,7 @@ use crate::address::MacAddress;
 use crate::bench::numbers;
 use crate::chip::{control, rcr, Chip};
 use crate::frame::{byte_count, pages_needed};
-use crate::memory::{PacketAddress, PacketNumber};
+use crate::memory::{Layout, PacketAddress, PacketNumber};
 
 /// Flags of a frame's end, as byte 1 of its record has them.
 const BAD_CRC: u8 = 1;
@@ -170,7 +170,7 @@ fn count_stored(tables: &mut Tables, seen: &Seen) {
         return;
     };
     let pages = after.packets.pages(packet);
-    let status = after.memory.word(pages, PacketAddress(0));
+    let status = after.packets.word(packet, PacketAddress(0));
     count_status(tables, status);
     let n = stored_length(before, frame);
     let parity = if n % 2 == 1 { "n odd" } else { "n even" };
@@ -205,7 +205,6 @@ fn count_status(tables: &mut Tables, status: u16) {
 fn meetings(seen: &Seen, packet: PacketNumber, n: usize) -> Vec<(&'static str, &'static str)> {
     let (before, after) = seen.chips();
     let frame = seen.before.gathered.as_slice();
-    let pages = after.packets.pages(packet);
     let free = before.packets.free_pages();
     let reserved = if before.registers.reserved > 0 {
         "some reserved"
@@ -213,8 +212,8 @@ fn meetings(seen: &Seen, packet: PacketNumber, n: usize) -> Vec<(&'static str, &
         "none reserved"
     };
     let count = byte_count(n);
-    let later =
-        (count..pages.len() * 256).map(|at| before.memory.byte(pages, PacketAddress(at as u16)));
+    let later = (count..after.packets.size(packet))
+        .map(|at| after.packets.byte(packet, PacketAddress(at as u16)));
     let met = [
         (
             free == room_needed(before, frame),
@@ -225,7 +224,7 @@ fn meetings(seen: &Seen, packet: PacketNumber, n: usize) -> Vec<(&'static str, &
             ("room to spare", reserved),
         ),
         (
-            pages[0].get() != packet.get(),
+            after.packets.pages(packet)[0].get() != packet.get(),
             ("packet", "number is no page"),
         ),
         (

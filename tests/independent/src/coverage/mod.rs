@@ -8,6 +8,7 @@ mod data;
 mod frames;
 mod sends;
 mod states;
+mod strips;
 mod tables;
 mod waiting;
 
@@ -39,6 +40,7 @@ pub struct Coverage {
     bench: Bench,
     requests: waiting::History,
     counts: counts::History,
+    strips: strips::History,
     tables: Tables,
 }
 
@@ -48,6 +50,7 @@ impl Coverage {
         self.bench = Bench::default();
         self.requests = waiting::History::default();
         self.counts = counts::History::default();
+        self.strips = strips::History::default();
         for record in records {
             self.step(record);
         }
@@ -73,6 +76,7 @@ impl Coverage {
         }
         counts::count(tables, &mut self.counts, &seen);
         waiting::count(tables, &mut self.requests, &seen);
+        strips::count(tables, &mut self.strips, &seen);
         states::count(tables, &self.bench.chip);
     }
 

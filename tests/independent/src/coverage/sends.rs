@@ -135,8 +135,7 @@ fn count_put_out(tables: &mut Tables, seen: &Seen, packet: PacketNumber) {
     let Ok(data) = before.data_length(packet) else {
         return;
     };
-    let odd = if data % 2 == 1 { "odd" } else { "even" };
-    let row = format!("{} {odd}", verdict_name(seen));
+    let row = put_out_name(seen, data);
     let pads = before.registers.tcr & tcr::PAD_EN != 0;
     tables.count(Part::PutOut, row, padding_name(pads, data));
     if pads && (59..=61).contains(&data) {
@@ -151,6 +150,12 @@ fn count_put_out(tables: &mut Tables, seen: &Seen, packet: PacketNumber) {
     {
         tables.count(Part::PutOut, "bytes behind", "stay");
     }
+}
+
+/// How a send of so many bytes of data ended.
+pub fn put_out_name(seen: &Seen, data: usize) -> String {
+    let odd = if data % 2 == 1 { "odd" } else { "even" };
+    format!("{} {odd}", verdict_name(seen))
 }
 
 fn padding_name(pads: bool, data: usize) -> &'static str {

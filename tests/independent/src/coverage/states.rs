@@ -3,7 +3,7 @@
 use super::in_pieces;
 use super::tables::{Part, Tables};
 use crate::chip::{control, ephsr, interrupt, Chip};
-use crate::memory::PacketNumber;
+use crate::memory::{Layout, PacketNumber};
 
 pub fn count(tables: &mut Tables, chip: &Chip) {
     count_states(tables, chip);

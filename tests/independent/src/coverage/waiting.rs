@@ -8,7 +8,7 @@ use super::tables::{Part, Tables};
 use super::{in_pieces, Seen};
 use crate::bench::numbers;
 use crate::chip::{ephsr, rcr};
-use crate::memory::{PacketNumber, PageNumber};
+use crate::memory::{Layout, PacketNumber, PageNumber};
 
 const ALLOCATION: &str = "20h to 27h";
 const STORED_FRAME: &str = "frame stored";
@@ -115,7 +115,7 @@ fn count_meeting(
         .overtakers
         .iter()
         .filter(|&&packet| after.rx.contains(packet))
-        .map(|&packet| after.packets.pages(packet).len())
+        .map(|&packet| after.packets.page_count(packet))
         .sum();
     let columns = those(&[
         (true, "waits on"),

@@ -3,6 +3,7 @@
 use super::driver::*;
 use super::Generator;
 use crate::chip::tcr;
+use crate::memory::Layout;
 
 impl Generator {
     /// Mostly usable, else on the far side of a limit.

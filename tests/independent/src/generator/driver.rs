@@ -2,7 +2,7 @@
 
 use super::Generator;
 use crate::chip::{rcr, Pointer};
-use crate::memory::PacketNumber;
+use crate::memory::{Layout, PacketNumber};
 pub use crate::places::*;
 
 impl Generator {

@@ -8,14 +8,22 @@ mod receive;
 mod setup;
 mod transmit;
 mod waiting;
+mod written;
 
-use crate::bench::{Bench, Record, RECORD_SIZE};
-use crate::chip::Chip;
+use crate::bench::{BenchOn, Record, RECORD_SIZE};
+use crate::chip::ChipOn;
+use crate::memory::{Marked, Paged};
 use crate::random::Random;
+pub use written::Reading;
 
 /// Exactly `count` records, the same for the same seed.
 pub fn records(seed: u64, count: usize) -> Vec<Record> {
-    let mut generator = Generator::new(seed, count);
+    records_reading(Reading::Free, seed, count)
+}
+
+/// The same, of records that may read only these bytes.
+pub fn records_reading(reading: Reading, seed: u64, count: usize) -> Vec<Record> {
+    let mut generator = Generator::new(reading, seed, count);
     generator.configure_all();
     while generator.records.len() < count {
         generator.play_scene();
@@ -64,6 +72,16 @@ const SCENES: &[Scene] = &[
     (1, Generator::read_whole_page),
 ];
 
+/// What streams have in addition that read only what was written.
+const WRITTEN_SCENES: &[Scene] = &[
+    (3, Generator::look_at_written),
+    (2, Generator::read_back),
+    (2, Generator::write_beside),
+    (3, Generator::forward_frame),
+    (2, Generator::send_and_release),
+];
+const WRITTEN: usize = 8;
+
 /// Scenes so costly or so shallow that they come once in many others.
 const RARE_SCENES: &[Scene] = &[
     (12, Generator::soft_reset),
@@ -76,27 +94,25 @@ const RARE: usize = 40;
 
 pub struct Generator {
     random: Random,
-    bench: Bench,
+    bench: BenchOn<Marked<Paged>>,
+    reading: Reading,
     records: Vec<Record>,
     wanted: usize,
 }
 
 impl Generator {
-    fn new(seed: u64, wanted: usize) -> Self {
+    fn new(reading: Reading, seed: u64, wanted: usize) -> Self {
         Self {
             random: Random::new(seed),
-            bench: Bench::default(),
+            bench: BenchOn::default(),
+            reading,
             records: Vec::with_capacity(wanted),
             wanted,
         }
     }
 
     fn play_scene(&mut self) {
-        let scenes = if self.random.one_in(RARE) {
-            RARE_SCENES
-        } else {
-            SCENES
-        };
+        let scenes = self.choose_scenes();
         let scene = self.choose(scenes);
         scene(self);
         if self.random.one_in(2) {
@@ -104,6 +120,17 @@ impl Generator {
         }
         if self.random.one_in(2) {
             self.set_mask(); // another bit of the status decides the line
+        }
+    }
+
+    fn choose_scenes(&mut self) -> &'static [Scene] {
+        if self.random.one_in(RARE) {
+            return RARE_SCENES;
+        }
+        match self.reading {
+            Reading::Free => SCENES,
+            _ if self.random.one_in(WRITTEN) => WRITTEN_SCENES,
+            _ => SCENES,
         }
     }
 
@@ -119,12 +146,16 @@ impl Generator {
         unreachable!("the shares sum to the total")
     }
 
-    fn chip(&self) -> &Chip {
+    fn chip(&self) -> &ChipOn<Marked<Paged>> {
         &self.bench.chip
     }
 
-    /// Plays a record on the own bench and keeps it while more are wanted.
+    /// Plays a record on the own bench and keeps it while more are wanted,
+    /// unless it reads what it must not.
     fn emit(&mut self, record: Record) {
+        if !self.make_readable(&record) {
+            return;
+        }
         if self.records.len() < self.wanted {
             self.records.push(record);
         }

@@ -1,9 +1,9 @@
 //! Scenes that probe: pointers, every offset, refused commands, odd records.
 
 use super::driver::*;
-use super::Generator;
+use super::{Generator, Reading};
 use crate::chip::Pointer;
-use crate::memory::PacketNumber;
+use crate::memory::{Layout, PacketNumber};
 
 /// A border between two pages of a packet; a gap when they are not adjacent.
 #[derive(Clone, Copy)]
@@ -104,7 +104,7 @@ impl Generator {
 
     /// Where one page of a packet ends and its next begins.
     fn page_borders(&self) -> Vec<Border> {
-        let packets = &self.chip().packets;
+        let packets = self.chip().packets.layout();
         let borders = |packet| {
             let pairs = packets.pages(packet).windows(2);
             (1..).zip(pairs).map(move |(index, pair)| Border {
@@ -138,11 +138,14 @@ impl Generator {
 
     /// A page read word by word: bytes that nobody wrote stay too.
     pub fn read_whole_page(&mut self) {
+        if self.reading == Reading::Written {
+            return self.read_back();
+        }
         let Some(packet) = self.pick_packet(|_, _| true) else {
             return;
         };
         self.select_packet(packet.get());
-        let pages = self.chip().packets.pages(packet).len();
+        let pages = self.chip().packets.page_count(packet);
         let page = self.random.between(0, pages - 1);
         self.look_at(0, 256 * page, 128);
     }
@@ -150,6 +153,9 @@ impl Generator {
     /// The whole memory, through three packets of eight pages: so that no byte
     /// differs unseen.
     pub fn read_whole_memory(&mut self) {
+        if self.reading == Reading::Written {
+            return self.free_all();
+        }
         self.command(FREE_ALL);
         for _ in 0..3 {
             self.command(ALLOCATE + 7);

@@ -4,7 +4,7 @@ use super::driver::*;
 use super::Generator;
 use crate::address::MacAddress;
 use crate::chip::{control, rcr, Pointer};
-use crate::memory::{PacketAddress, PacketNumber};
+use crate::memory::{Layout, PacketNumber};
 
 impl Generator {
     pub fn short_frame(&mut self) {
@@ -182,9 +182,8 @@ impl Generator {
         let Some(packet) = self.chip().rx.head() else {
             return;
         };
-        let pages = self.chip().packets.pages(packet);
         let size = self.chip().packets.size(packet);
-        let count = usize::from(self.chip().memory.word(pages, PacketAddress(2)));
+        let count = usize::from(self.chip().byte_count(packet));
         self.look_at(Pointer::RECEIVE, 0, 5);
         if (4..size).contains(&count) {
             self.look_at(Pointer::RECEIVE, count - 3, 3);

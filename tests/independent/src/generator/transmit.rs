@@ -3,7 +3,7 @@
 use super::driver::*;
 use super::Generator;
 use crate::chip::{control, tcr, Pointer};
-use crate::memory::PacketNumber;
+use crate::memory::{Layout, PacketNumber};
 
 impl Generator {
     /// A packet's whole life, with each step sometimes left out.

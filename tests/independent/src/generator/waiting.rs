@@ -5,7 +5,7 @@ use super::driver::*;
 use super::Generator;
 use crate::address::MacAddress;
 use crate::chip::{control, interrupt, rcr, tcr};
-use crate::memory::PacketNumber;
+use crate::memory::{Layout, PacketNumber};
 
 /// What gives pages back.
 #[derive(Clone, Copy)]
@@ -173,7 +173,7 @@ impl Generator {
             Giver::RemoveAndRelease => self.chip().rx.head(),
             Giver::Send => self.chip().tx.head(),
         };
-        packet.map_or(1, |packet| self.chip().packets.pages(packet).len())
+        packet.map_or(1, |packet| self.chip().packets.page_count(packet))
     }
 
     /// A mask under which the line goes up in the very step that grants.
@@ -224,7 +224,7 @@ impl Generator {
             .unwrap_or(0)
             .saturating_sub(self.free_pages());
         let few = self.pick_packet(|now, packet| {
-            !now.chip().is_queued(packet) && now.chip().packets.pages(packet).len() < lacking
+            !now.chip().is_queued(packet) && now.chip().packets.page_count(packet) < lacking
         });
         if let Some(packet) = few {
             self.release(packet);

@@ -125,7 +125,7 @@ fn the_order_of_sends() {
 /// Registers, pool, memory and output buffer.
 fn whole(bench: &Bench) -> (Vec<u32>, Vec<u32>, Vec<u8>, [u8; OUTPUT_SIZE]) {
     let chip = &bench.chip;
-    let memory = chip.memory.bytes().to_vec();
+    let memory = chip.packets.bytes().to_vec();
     (registers(&chip.registers), pool(chip), memory, bench.output)
 }
 

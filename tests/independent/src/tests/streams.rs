@@ -5,6 +5,7 @@ use std::collections::{BTreeMap, BTreeSet};
 use super::record;
 use crate::bench::{numbers, Bench};
 use crate::generator;
+use crate::memory::Layout;
 
 #[test]
 fn streams_are_exact_and_repeat() {

@@ -270,10 +270,10 @@ fn a_refused_release_leaves_the_request() {
 fn a_grant_changes_no_byte() {
     let mut chip = waiting_for(2);
     enqueue(&mut chip, 0);
-    let before = chip.memory.bytes().to_vec();
+    let before = chip.packets.bytes().to_vec();
     release(&mut chip, 3);
     granted(&mut chip, 3, &[22, 23]);
-    assert_eq!(chip.memory.bytes(), before);
+    assert_eq!(chip.packets.bytes(), before);
 }
 
 /// The last number of the registers' line.
