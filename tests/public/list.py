@@ -21,7 +21,7 @@ PROMISES = os.path.join(os.path.dirname(os.path.abspath(__file__)), "promises.tx
 DEMANDS = os.path.join(ROOT, "crates", "demands", "specs", "Demands.antt")
 OPEN, CLOSE = "([{«", ")]}»"
 # types that have something in them: a promise "of every" such thing asks for no instance
-DATA = {"ℕ", "List", "Lanes", "Register"}
+DATA = {"ℕ", "List", "Lanes", "Register", "Layout"}
 
 failures = []
 
