@@ -22,11 +22,11 @@ use Rattle.rules.specs.Step.{Input, driver, frame, sent, serve, stepOf, runOf, 
 use Rattle.lists.specs.Facts.{_and_, is-true}
 use Rattle.wellformed.specs.Fit.{below-decides}
 use Rattle.laws.specs.Head.{headCount}
-use Rattle.laws.specs.Written.{Marks, unwritten, marked, anew, commandMarks, writeMarks, accessMarks, frameMarks, sendMarks, inputMarks, written, headControl, ReadsWritten, Minds, OnlyWritten}
+use Rattle.laws.specs.Written.{Marks, unwritten, marked, anew, commandMarks, writeMarks, accessMarks, frameMarks, sendMarks, inputMarks, written, headControl, writtenBy, ReadsWritten, Minds, OnlyWritten}
 use Rattle.laws.specs.StripsAlike.{StripsBeside, strips-beside}
 
 -- are w bytes of packet k, from address a on, written
-unfoldable allMarked : ℕ → ℕ → ℕ → Marks → Bool
+unfoldable pub allMarked : ℕ → ℕ → ℕ → Marks → Bool
 allMarked zero a k m = true
 allMarked (suc w) a k m = m k a && allMarked w (suc a) k m
 
@@ -95,8 +95,18 @@ arriving = record { bytes = replicate 64 0xff; badCrc = false; alignment = false
 abbrev drains : List Access
 drains = write word 6 0xe000 ∷ read word 8 ∷ read word 8 ∷ read word 8 ∷ write byte 0 0x80 ∷ []
 
+-- up to the send, to its end, and to the frame
+abbrev pub toSend : List Input
+toSend = map driver (starts ++ loads)
+
+abbrev pub toSent : List Input
+toSent = toSend ++ (sent (record { outcome = 0; collisions = 0; deferral = 0 }) (replicate 2048 0) ∷ [])
+
+abbrev pub toFrame : List Input
+toFrame = toSent ++ (frame arriving ∷ [])
+
 abbrev pub used : List Input
-used = map driver (starts ++ loads) ++ (sent (record { outcome = 0; collisions = 0; deferral = 0 }) (replicate 2048 0) ∷ frame arriving ∷ map driver drains)
+used = toFrame ++ map driver drains
 
 used-test : allMinded 24 used powerUp unwritten ≡ true
 unfolding bit setBit clearBit flag lowByte highByte wordOf wordAt member some? owned unless freeBelow firstEmpty above ascends allBelow apart noneOwned pagesGood laidGood queueGood queuesGood numbersGood requestGood formed fit place getBytes putBytes decode perform due settle address advance next ifPacket against oddFixed past ifOpen valueOf readData writeData registerAt misplaced lanesAt taken merged width bytesOf headOf newRcr writeRcr forgotten writeTcr lowOnly readRegister writeRegister access crcBit crcBits crcFrom crc hash sameBytes broadcast group inTable accepted dataLength countOf pagesFor needed valueFor dropped judge groupBits frameStatus trailer image after arrive inLimits byteCount sendLength padded controlByte putOut good failureBit collisionBits outcomeBits addressBits nibble counted tally nibbles anyAt15 newEcr newEphsr autoRelease sendHead ifUsable ifSendable finish serve stepOf allMarked readsMarked minded allMinded marked anew commandMarks writeMarks accessMarks frameMarks sendMarks inputMarks written
@@ -105,6 +115,15 @@ used-test = refl
 unfoldable pub usedReplies : List Reply
 unfolding bit setBit clearBit flag lowByte highByte wordOf wordAt member some? owned unless freeBelow firstEmpty above ascends allBelow apart noneOwned pagesGood laidGood queueGood queuesGood numbersGood requestGood formed fit place getBytes putBytes decode perform due settle address advance next ifPacket against oddFixed past ifOpen valueOf readData writeData registerAt misplaced lanesAt taken merged width bytesOf headOf newRcr writeRcr forgotten writeTcr lowOnly readRegister writeRegister access crcBit crcBits crcFrom crc hash sameBytes broadcast group inTable accepted dataLength countOf pagesFor needed valueFor dropped judge groupBits frameStatus trailer image after arrive inLimits byteCount sendLength padded controlByte putOut good failureBit collisionBits outcomeBits addressBits nibble counted tally nibbles anyAt15 newEcr newEphsr autoRelease sendHead ifUsable ifSendable finish serve stepOf runOf
 usedReplies = run used powerUp .replies
+
+-- what is written of packet 0 after these inputs, from address 0 on
+abbrev pub writtenUpTo : ℕ → List Input → Bool
+writtenUpTo w inputs = allMarked w 0 0 (writtenBy 24 inputs powerUp unwritten)
+
+-- A send writes its status word, at addresses 0 and 1, which no data write had reached (its packet is given back behind it, which forgets nothing); a stored frame writes all 70 bytes that its count counts, and no more.
+pub used-written : (writtenUpTo 1 toSend ≡ false) × (writtenUpTo 2 toSent ≡ true) × (writtenUpTo 70 toFrame ≡ true) × (writtenUpTo 71 toFrame ≡ false)
+unfolding bit setBit clearBit flag lowByte highByte wordOf wordAt member some? owned unless freeBelow firstEmpty above ascends allBelow apart noneOwned pagesGood laidGood queueGood queuesGood numbersGood requestGood formed fit place getBytes putBytes decode perform due settle address advance next ifPacket against oddFixed past ifOpen valueOf readData writeData registerAt misplaced lanesAt taken merged width bytesOf headOf newRcr writeRcr forgotten writeTcr lowOnly readRegister writeRegister access crcBit crcBits crcFrom crc hash sameBytes broadcast group inTable accepted dataLength countOf pagesFor needed valueFor dropped judge groupBits frameStatus trailer image after arrive inLimits byteCount sendLength padded controlByte putOut good failureBit collisionBits outcomeBits addressBits nibble counted tally nibbles anyAt15 newEcr newEphsr autoRelease sendHead ifUsable ifSendable finish serve stepOf allMarked readsMarked minded allMinded marked anew commandMarks writeMarks accessMarks frameMarks sendMarks inputMarks written
+used-written = (refl, refl, refl, refl)
 
 -- Its send reads only written bytes,
 pub used-minds : OnlyWritten 24 used powerUp unwritten
