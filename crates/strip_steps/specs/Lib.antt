@@ -1,4 +1,3 @@
 -- What the steps of the chip of strips rest on.
 pub mod Data
-pub mod Ready
 pub mod Sends

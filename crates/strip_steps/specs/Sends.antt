@@ -6,7 +6,6 @@ use native.Mathlib.Omega.{arith}
 use lib.ListN.{length, getD}
 use Rattle.rules.specs.Chip.{strips}
 use Rattle.rules.specs.Send.{putOut}
-use Rattle.wellformed.specs.Layouts.{GoodLists}
 use Rattle.state.specs.View.{word, queueIn, stripsFrom}
 use Rattle.state.specs.Pages.{strip-at, strip-count}
 use Rattle.state.specs.Promise.{ReadyOf}
@@ -16,9 +15,6 @@ use Rattle.strip_bytes.specs.Strip.{stripOf, first-out}
 use Rattle.strip_steps.specs.Data.{count-few}
 
 module _ {w s q : List ℕ} (r : ReadyOf strips w s q) where
-  pub good-lists : GoodLists strips 24 (stripsFrom 0 s)
-  good-lists = record { count = r .well .count; pages = r .well .pages; laid = r .well .laid }
-
   -- the head of TX has pages
   pub strip-few : {k : ℕ} → 0 < word w 8 → k ≡ getD (queueIn 1 (word w 8) q) 0 0 → (1 ≤ length (getD (stripsFrom 0 s) k [])) × (length (getD (stripsFrom 0 s) k []) ≤ 8)
   strip-few h e =

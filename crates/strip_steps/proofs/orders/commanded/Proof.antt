@@ -6,6 +6,7 @@ use Rattle.rules.specs.Chip.{strips}
 use Rattle.rules.specs.Mmu as rules
 use Rattle.rules.specs.Mmu.{Command, decode, perform}
 use Rattle.wellformed.specs.Keeps.{Valid, decode-valid}
+use Rattle.wellformed.specs.Pool.{good-lists}
 use Rattle.state.specs.declared.Answer.{Answer}
 use Rattle.state.specs.declared.Answer.the-variants as answer
 use Rattle.state.specs.Promise.{ReadyOf}
@@ -13,7 +14,6 @@ use Rattle.commands.specs.declared.Order.{Order}
 use Rattle.commands.specs.Orders.{commandOf, PerformsOf}
 use Rattle.pool.specs.Pages.{waits-few}
 use Rattle.commands.specs.Returns.{unchanged}
-use Rattle.strip_steps.specs.Ready.{ready-lists}
 use borrow.Author.Needs.{needs}
 use Rattle.strip_steps.proofs.orders.commanded.Statement.{statement}
 use Rattle.strip_steps.proofs.orders.commanded.Tie as tie
@@ -35,10 +35,10 @@ do-allocate-requires c κs =
     let d = o .before .before in
     let s = d .before .before .before .before in
     let v = subst Valid (sym (d .decoded .ensures) ∙ ap commandOf (o .order .given .1)) (decode-valid (s .args .value)) in
-    (v .0, v .1, s .pre .sound .kept, s .pre .sound .sets, ready-lists (s .pre))
+    (v .0, v .1, s .pre .sound .kept, s .pre .sound .sets, good-lists (s .pre .well))
 
 do-release-requires : tie.Need-do-release-requires
-do-release-requires c κs = let s = c .before .before .before .before .before .before .before .before in (s .pre .sound .kept, s .pre .sound .sets, ready-lists (s .pre), waits-few (s .pre))
+do-release-requires c κs = let s = c .before .before .before .before .before .before .before .before in (s .pre .sound .kept, s .pre .sound .sets, good-lists (s .pre .well), waits-few (s .pre))
 
 returns : tie.Need-returns
 unfolding perform

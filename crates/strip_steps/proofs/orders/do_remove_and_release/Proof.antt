@@ -7,13 +7,13 @@ use lib.ListN.{length, drop, getD}
 use Rattle.rules.specs.Chip.{Registers, strips}
 use Rattle.rules.specs.Fields.{setRx, inPool}
 use Rattle.rules.specs.Mmu as rules
+use Rattle.wellformed.specs.Pool.{good-lists}
 use Rattle.state.specs.declared.Answer.the-variants as answer
 use Rattle.state.specs.View.{word, queueIn, viewOf}
 use Rattle.pool.specs.Queues.{rejoins-chip, rejoins-sets}
 use Rattle.pool.specs.Pages.{alters-sound, waits-few}
 use Rattle.commands.specs.Steps.{releases-none, releases-head, head-small}
 use Rattle.commands.specs.Returns.{performs, unchanged}
-use Rattle.strip_steps.specs.Ready.{ready-lists}
 use borrow.Author.Needs.{needs}
 use Rattle.strip_steps.proofs.orders.do_remove_and_release.Statement.{statement}
 use Rattle.strip_steps.proofs.orders.do_remove_and_release.Tie as tie
@@ -34,7 +34,7 @@ give-back-requires c κs =
     let s = e .before .before .before .before .before in
     let left = l .leave-rx .ensures in
     let small = head-small (viewOf strips (s .args .words .now) (s .args .counts .now) (s .args .queues .now) []) (s .pre .well) (some e) in
-    (left .1 .kept, rejoins-sets (left .1) (s .pre .sound .sets), ready-lists (s .pre), omega (arith, left .0, small), omega (arith, waits-few (s .pre), ap (λ (r : Registers). r .numbers .waiting) (left .1 .regs)))
+    (left .1 .kept, rejoins-sets (left .1) (s .pre .sound .sets), good-lists (s .pre .well), omega (arith, left .0, small), omega (arith, waits-few (s .pre), ap (λ (r : Registers). r .numbers .waiting) (left .1 .regs)))
 
 returns-2 : tie.Need-returns-2
 returns-2 c = λ mem.

@@ -7,11 +7,12 @@ use native.Mathlib.Omega.{arith}
 use lib.ListN.{length, getD}
 use Rattle.rules.specs.Chip.{strips, Chip}
 use Rattle.rules.specs.Send.{addressBits}
+use Rattle.wellformed.specs.Pool.{good-lists}
 use Rattle.state.specs.View.{stripsFrom}
 use Rattle.pool.specs.Pages.{waits-few}
 use Rattle.sending.specs.After.{same-completion, completes, head-small}
 use Rattle.strip_steps.specs.Data.{in-strip, strip-reads, strip-writes}
-use Rattle.strip_steps.specs.Sends.{good-lists, strip-few}
+use Rattle.strip_steps.specs.Sends.{strip-few}
 use Rattle.strip_steps.proofs.sends.complete.Statement.{statement}
 use Rattle.strip_steps.proofs.sends.complete.Tie as tie
 
@@ -50,7 +51,7 @@ retire-requires c κs =
     let e = t .after-send .ensures .1 in (
       omega (arith, s .pre .3, head-small (s .pre .0) (s .pre .2)),
       record { kept = e .kept; queues = e .queues; sets = record { many = o .sets .many; free = e .free ∙ o .sets .free; small = o .sets .small } },
-      good-lists (s .pre .0),
+      good-lists (s .pre .0 .well),
       λ f. omega (arith, s .pre .5 f, same-completion e (o .queues)),
       omega (arith, waits-few (s .pre .0), ap (λ (c : Chip). c .regs .numbers .waiting) (e .chip strips [] [])),
     )
