@@ -5,7 +5,7 @@ use Prim.Native.Nat.{ℕ, zero, suc, _+_, _/_, _%_}
 use lib.Dec.{eqb, leb, ltb}
 use lib.ListN.{length, getD, take, drop, replicate}
 use Rattle.rules.specs.Bits.{bit, wordOf}
-use Rattle.rules.specs.Chip.{Chip, powerUp}
+use Rattle.rules.specs.Chip.{Chip, powerUp, stripsUp}
 use Rattle.rules.specs.Answers.{Reply, Turn, done, refusal}
 use Rattle.rules.specs.Registers.{Access, read, write, byte, word}
 use Rattle.rules.specs.Send.{Send}
@@ -46,8 +46,11 @@ pub record Bench : Type 0 where
   pub output : List ℕ
 
 -- it "starts from power-up"; the output buffer has 2,048 bytes, so 15 is never given
+abbrev pub startedOn : Chip → Bench
+startedOn c = record { chip = c; gathered = []; output = replicate 2048 0 }
+
 abbrev pub started : Bench
-started = record { chip = powerUp; gathered = []; output = replicate 2048 0 }
+started = startedOn powerUp
 
 pub record Answered : Type 0 where
   pub reply : Reply
@@ -115,3 +118,7 @@ printed form (suc n) k (x ∷ xs) b =
 -- what the program prints for its standard input
 abbrev pub bench : List ℕ → List ℕ
 bench input = printed plain (length input) 1 input started
+
+-- and what "strip_bench" prints: the same on the chip of strips (document 02, W3)
+abbrev pub stripBench : List ℕ → List ℕ
+stripBench input = printed plain (length input) 1 input (startedOn stripsUp)
