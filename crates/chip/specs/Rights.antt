@@ -4,8 +4,8 @@ use mathlib.Core.Bool.{Bool, true, false, not, true≢false}
 use mathlib.Core.List.{List, []}
 use Prim.Native.Nat.{ℕ, _*_}
 use borrow.Author.Tests.{not-true, not-false}
-use lib.ListN.{length}
-use Rattle.rules.specs.Chip.{Layout, Chip, pageNumbers}
+use lib.ListN.{length, length-replicate}
+use Rattle.rules.specs.Chip.{Layout, Chip, pageNumbers, powered}
 use Rattle.rules.specs.Answers.{Effect, Turn}
 use Rattle.rules.specs.WellFormed.{FormedAt}
 use Rattle.rules.specs.Registers.{Access, access}
@@ -14,16 +14,14 @@ use Rattle.rules.specs.Send.{Send, finish}
 use Rattle.rules.specs.Step.{Input, driver, frame, sent, lent, serve, step}
 use Rattle.lists.specs.Facts.{Decides}
 use Rattle.wellformed.specs.Fit.{Fits, step-fit}
-use Rattle.wellformed.specs.Keeps.{keeps}
+use Rattle.wellformed.specs.Keeps.{keeps, powered-fits}
 use Rattle.state.specs.declared.Answer.{Answer}
-use Rattle.state.specs.declared.Answer.the-variants.{Damaged}
-use Rattle.state.specs.declared.Registers.{Registers}
-use Rattle.state.specs.declared.Pages.{Pages}
-use Rattle.state.specs.declared.Queues.{Queues}
-use Rattle.state.specs.declared.Returned.{Returned}
-use Rattle.state.specs.View.{viewOf, view}
-use Rattle.state.specs.Promise.{MakesOf}
-use Rattle.state.specs.Entry.{InOrderOf, RightOf, InOrderBy, Right, Answers}
+use Rattle.state.specs.declared.Answer.the-variants.{Done, Damaged}
+use Rattle.state.specs.View.{viewOf}
+use Rattle.state.specs.Promise.{SoundOf, MakesOf}
+use Rattle.chip.specs.declared.driver.Request.{Request}
+use Rattle.chip.specs.Inputs.{accessOf}
+use Rattle.state.specs.Entry.{InOrderOf, RightOf, AnswersOf, zeros, StartedOf}
 
 -- the effect of a turn
 abbrev pub effectOf : Turn → Effect
@@ -63,12 +61,12 @@ module _ {l : Layout} (w s q mem : List ℕ) (o : InOrderOf l w s q mem) where
   right-send x out = right (sent x out)
 
 -- What is returned of a record that is not in order, and of one that is.
-pub damaged : (i : Input) (r : Registers) (p : Pages) (k : Queues) (mem : List ℕ) → (InOrderBy r p k mem → ⊥) → Answers i r p k mem (record { answer = Damaged; registers = r; pages = p; queues = k }) mem (lent i)
-damaged i r p k mem n = record { done = λ o. absurd (n o); broken = λ o. record { same = refl; memory = refl; output = refl } }
+module _ {l : Layout} {w s q mem : List ℕ} where
+  pub damaged : (i : Input) → (InOrderOf l w s q mem → ⊥) → AnswersOf l i w s q mem Damaged w s q mem (lent i)
+  damaged i n = record { done = λ o. absurd (n o); broken = λ o. record { answer = refl; words = refl; pages = refl; queues = refl; memory = refl; output = refl } }
 
-pub answered : (i : Input) (r : Registers) (p : Pages) (k : Queues) (mem : List ℕ) (x : Returned) (mem′ out′ : List ℕ) → InOrderBy r p k mem
-    → Right (step i (view (r .words) (p .sets) (k .slots) mem)) (x .answer) (x .registers .words) (x .pages .sets) (x .queues .slots) mem′ out′ → Answers i r p k mem x mem′ out′
-answered i r p k mem x mem′ out′ o t = record { done = λ q. t; broken = λ n. absurd (n o) }
+  pub answered : (i : Input) {a : Answer} {w′ s′ q′ mem′ out′ : List ℕ} → InOrderOf l w s q mem → RightOf l (step i (viewOf l w s q mem)) a w′ s′ q′ mem′ out′ → AnswersOf l i w s q mem a w′ s′ q′ mem′ out′
+  answered i o t = record { done = λ x. t; broken = λ n. absurd (n o) }
 
 -- A test that says no, and one that says yes.
 pub not-in : {b : Bool} {P : Type 0} → Decides b P → not b ≡ true → P → ⊥
@@ -80,3 +78,15 @@ is-in d e = d .sound (not-false _ e)
 -- The same where the test itself is taken.
 pub not-so : {b : Bool} {P : Type 0} → Decides b P → b ≡ false → P → ⊥
 not-so d e p = true≢false (sym (d .complete p) ∙ e)
+
+-- A request that is another one's arm: what is right of the arm's access is right of the request's.
+pub as-told : {l : Layout} {r k : Request} (c : Chip) {a : Answer} {w s q mem : List ℕ} → r ≡ k → RightOf l (step (driver (accessOf k)) c) a w s q mem [] → RightOf l (step (driver (accessOf r)) c) a w s q mem []
+as-told {l} c {a} {w} {s} {q} {mem} e = subst (λ (j : Request). RightOf l (step (driver (accessOf j)) c) a w s q mem []) (sym e)
+
+-- What stands for the chip at power-up is in order.
+pub starts : {l : Layout} {w s q : List ℕ} → SoundOf l w s q → viewOf l w s q (zeros l) ≡ powered l 24 → StartedOf l (Done 0) w s q
+starts {l} o e = record {
+  answer = refl;
+  chip = e;
+  ready = record { ready = record { sound = o; well = subst (λ (d : Chip). FormedAt 24 d) (sym e) (powered-fits l 24 .0) }; full = length-replicate {A = ℕ} (256 * pageNumbers l 24) 0 };
+}

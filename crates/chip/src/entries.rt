@@ -4,7 +4,7 @@ use state::Pages;
 use state::Queues;
 use state::Registers;
 use state::Returned;
-ghost use Rattle.chip.specs.Inputs.{Started, Lines};
+ghost use Rattle.state.specs.Entry.{Started, Lines};
 
 // Registers, pages and queues at power-up; the memory beside them is 6,144 zero bytes.
 pub fn power_up() -> Returned

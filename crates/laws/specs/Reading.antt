@@ -2,10 +2,10 @@
 use mathlib.Core.Path.{_≡_}
 use mathlib.Core.List.{List, [], _∷_}
 use Prim.Native.Nat.{ℕ, _+_, _*_}
-use Rattle.rules.specs.Chip.{Chip, powerUp}
+use Rattle.rules.specs.Chip.{Layout, Chip, powered}
 use Rattle.rules.specs.Answers.{Reply}
 use Rattle.rules.specs.Registers.{byte, word, read, write}
-use Rattle.rules.specs.Step.{Input, driver, step, run, history}
+use Rattle.rules.specs.Step.{Input, driver, step, run}
 use Rattle.laws.specs.Ledger.{Ledger, blank, ledgerFrom}
 
 -- A driver's two ways to read MIR, from whatever bank: bank 0 is selected by a byte at E, then MIR's high byte is read at 9, or its word at 8.
@@ -37,6 +37,6 @@ pub record Balances (c : Chip) (l : Ledger) : Type 0 where
   pub reads : ReadsFree c count
   pub even : count + l .granted ≡ 24 + l .back
 
--- "counted over the steps since power-up": of every history
-abbrev pub BalancesAlways : Type 0
-BalancesAlways = (inputs : List Input) → Balances (history inputs .chip) (ledgerFrom 24 inputs powerUp (blank 24))
+-- "counted over the steps since power-up": of every history, of either layout
+abbrev pub BalancesAlways : Layout → Type 0
+BalancesAlways l = (inputs : List Input) → Balances (run inputs (powered l 24) .chip) (ledgerFrom 24 inputs (powered l 24) (blank 24))

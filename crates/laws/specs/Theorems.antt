@@ -6,11 +6,11 @@ use Prim.Native.Nat.{ℕ, _+_, _*_, _≤_, _<_, _/_, _%_}
 use native.Mathlib.Omega.{arith}
 use lib.ListN.{length}
 use Rattle.rules.specs.Bits.{bit, highByte, wordOf}
-use Rattle.rules.specs.Chip.{paged, Chip, size, free, powerUp}
+use Rattle.rules.specs.Chip.{Layout, paged, Chip, size, free, powered}
 use Rattle.rules.specs.Fields.{setBank, inRegisters}
 use Rattle.rules.specs.Answers.{doneWith, did, leaving}
 use Rattle.rules.specs.Registers.{byte, word, read, write, registerAt, misplaced, lanesAt, taken, lowOnly, readRegister, writeRegister, access}
-use Rattle.rules.specs.Step.{Input, driver, serve, step, runOf, run, history}
+use Rattle.rules.specs.Step.{Input, driver, serve, step, runOf, run}
 use Rattle.wellformed.specs.Fit.{Fits, step-fit}
 use Rattle.wellformed.specs.Layouts.{free-total}
 use Rattle.wellformed.specs.Pool.{good-lists}
@@ -24,18 +24,15 @@ use Rattle.laws.specs.Balance.{run-fits, balances, balances-since, run-j
 abbrev pub Whole : Chip → Type 0
 Whole c = Fits 24 c
 
--- A chip is so at power-up, after each step from one that is, and so throughout every run and every history.
-pub power-up-whole : Whole powerUp
-power-up-whole = powered-fits paged 24
+-- A chip is so at power-up, after each step from one that is, and so throughout every run.
+pub power-up-whole : (l : Layout) → Whole (powered l 24)
+power-up-whole l = powered-fits l 24
 
 pub step-whole : (i : Input) (c : Chip) → Whole c → Whole (step i c .chip)
 step-whole i c w = keeps 24 c w i
 
 pub run-whole : (inputs : List Input) (c : Chip) → Whole c → Whole (run inputs c .chip)
 run-whole = run-fits 24
-
-pub history-whole : (inputs : List Input) → Whole (history inputs .chip)
-history-whole inputs = run-whole inputs powerUp power-up-whole
 
 -- After each step from a well-formed chip of pages every page is free or in exactly one packet, at one place of its list.
 pub pages-accounted : (i : Input) (c : Chip) → Whole c → c .pool .layout ≡ paged → (p : ℕ) → p < 24 → IsFree (step i c .chip) p ⊎ InOne (step i c .chip) p
@@ -76,10 +73,10 @@ free-read c w =
     }
 
 -- "counted over the steps since power-up": for every history
-pub since-power-up : BalancesAlways
-since-power-up inputs =
-    let c = history inputs .chip in
-    record { count = length (free c); reads = free-read c (history-whole inputs); even = balances 24 (omega arith) paged inputs }
+pub since-power-up : (l : Layout) → BalancesAlways l
+since-power-up l inputs =
+    let c = run inputs (powered l 24) .chip in
+    record { count = length (free c); reads = free-read c (run-whole inputs (powered l 24) (power-up-whole l)); even = balances 24 (omega arith) l inputs }
 
 -- "or the last soft or MMU reset": for every run, from any well-formed chip and whatever the ledger said at first, once a step of it was such a reset
 pub since-reset : (c : Chip) → Whole c → (l : Ledger) (before : List Input) (i : Input) (after : List Input) → Resets 24 i (run before c .chip)

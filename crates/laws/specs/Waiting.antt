@@ -42,7 +42,7 @@ pub run-not-in-vain : (inputs : List Input) (c : Chip) → Whole c → NotInVain
 run-not-in-vain inputs c w = not-in-vain 24 (run inputs c .chip) (run-whole inputs c w)
 
 pub never-waits-in-vain : (inputs : List Input) → let c = history inputs .chip in 0 < c .regs .numbers .waiting → length (free c) < c .regs .numbers .waiting
-never-waits-in-vain inputs some = run-not-in-vain inputs powerUp power-up-whole some .short
+never-waits-in-vain inputs some = run-not-in-vain inputs powerUp (power-up-whole paged) some .short
 
 -- the step gives back the pages of packet k: the ledger enters it first
 abbrev pub GivesBack : ℕ → Input → Chip → ℕ → Type 0

@@ -79,7 +79,7 @@ Refused w s q =
     → Answers i (record { words = w }) (record { sets = s }) (record { slots = q }) mem y mem′ out′ → y .answer ≡ Damaged
 
 gets-16 : (w s q : List ℕ) → (Ready w s q → ⊥) → Refused w s q
-gets-16 w s q n i mem y mem′ out′ a = ap (λ (z : Returned). z .answer) (a .broken (λ o. n (o .ready)) .same)
+gets-16 w s q n i mem y mem′ out′ a = a .broken (λ o. n (o .ready)) .answer
 
 -- So does the record with word `at` another one.
 abbrev Gets16 : ℕ → ℕ → Type 0

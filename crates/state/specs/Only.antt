@@ -1,6 +1,7 @@
 -- A state is known from the chip that it stands for: its words from the registers and a count of the pool, its sets from their pages, its queues' bytes
 -- from their entries. So there is only one result of a public entry, and of a step below one: two that meet its promise are equal.
 use mathlib.Core.Path.{_≡_, refl, ap, ap₂, sym, _∙_}
+use mathlib.Core.Bool.{Bool}
 use mathlib.Core.List.{List, [], _∷_, _++_, map}
 use Prim.Native.Nat.{ℕ, suc, _+_, _*_, _-_, _/_, _%_, _<_}
 use native.Mathlib.Omega.{arith}
@@ -20,17 +21,13 @@ use Rattle.queues.specs.Slots.{Slots}
 use Rattle.queues.specs.Parts.{slots, part-long}
 use Rattle.state.specs.declared.Answer.{Answer}
 use Rattle.state.specs.declared.Answer.the-variants.{Done, Misplaced, NotModelled, ReadOnly, Reserved, NotAllocated, StillQueued, RxEmpty, AgainstRead, OddPointer, PastPages, OutsideLimits, NothingToSend, OddCount, CompletionFull, ShortOutput, Damaged, CutShort, ShortCount, LongCount}
-use Rattle.state.specs.declared.Registers.{Registers}
-use Rattle.state.specs.declared.Pages.{Pages}
-use Rattle.state.specs.declared.Queues.{Queues}
-use Rattle.state.specs.declared.Returned.{Returned}
 use Rattle.state.specs.Meaning.{replyOf}
 use Rattle.state.specs.View.{word, registersIn, figures, queueIn, stripsFrom, listsOf, poolOf, viewOf, FixedIn, BlankIn, Kept}
 use Rattle.state.specs.Written.{Written, written-out}
-use Rattle.state.specs.Promise.{QueuesIn, Small, SoundOf, MakesOf, Sets, Does}
+use Rattle.state.specs.Promise.{QueuesIn, Small, SoundOf, ReadyOf, MakesOf, Sets, Does}
 use Rattle.state.specs.Counted.{full-count}
-use Rattle.state.specs.Entry.{InOrderBy, RightOf, Answers}
-use Rattle.state.specs.Decided.{decided}
+use Rattle.state.specs.Entry.{InOrderOf, RightOf, AnswersOf, StartedOf, LinesOf}
+use Rattle.state.specs.Decided.{ready?, decided}
 
 -- The words of registers, and of figures beside them.
 abbrev wordsWith : rules.Registers → List ℕ → List ℕ
@@ -243,23 +240,27 @@ does-once {a = a} {b = b} x y =
 pub sets-once : {f : rules.Registers → rules.Registers} {w w₁ w₂ : List ℕ} → Sets f w w₁ → Sets f w w₂ → w₁ ≡ w₂
 sets-once x y = words-once (x .kept) (y .kept) (x .regs ∙ sym (y .regs)) (x .still ∙ sym (y .still))
 
--- Two results of a public entry, with memory and output, are the same.
-pub record Same (x y : Returned) (mem mem′ out out′ : List ℕ) : Type 0 where
-  pub returned : x ≡ y
-  pub memory : mem ≡ mem′
-  pub output : out ≡ out′
+-- Only one result of a public entry: answer, words, sets (or counts), queues, memory and output.
+module _ {l : rules.Layout} {a a′ : Answer} {w₁ s₁ q₁ w₂ s₂ q₂ : List ℕ} where
+  pub only : (i : Input) (w s q mem : List ℕ) {mem₁ out₁ mem₂ out₂ : List ℕ} → AnswersOf l i w s q mem a w₁ s₁ q₁ mem₁ out₁ → AnswersOf l i w s q mem a′ w₂ s₂ q₂ mem₂ out₂
+      → (a ≡ a′) × (w₁ ≡ w₂) × (s₁ ≡ s₂) × (q₁ ≡ q₂) × (mem₁ ≡ mem₂) × (out₁ ≡ out₂)
+  only i w s q mem {mem₁} {out₁} {mem₂} {out₂} x y = go (decided l w s q mem)
+    where
+      go : Dec (InOrderOf l w s q mem) → (a ≡ a′) × (w₁ ≡ w₂) × (s₁ ≡ s₂) × (q₁ ≡ q₂) × (mem₁ ≡ mem₂) × (out₁ ≡ out₂)
+      go (yes o) = right-once (x .done o) (y .done o)
+      go (no n) =
+          let u = x .broken n in
+          let v = y .broken n in
+          (u .answer ∙ sym (v .answer), u .words ∙ sym (v .words), u .pages ∙ sym (v .pages), u .queues ∙ sym (v .queues), u .memory ∙ sym (v .memory), u .output ∙ sym (v .output))
 
--- Only one result: answer, words, sets, queues, memory and output.
-pub only : (i : Input) (r : Registers) (p : Pages) (k : Queues) (mem : List ℕ) (x y : Returned) (mem₁ mem₂ out₁ out₂ : List ℕ)
-    → Answers i r p k mem x mem₁ out₁ → Answers i r p k mem y mem₂ out₂ → Same x y mem₁ mem₂ out₁ out₂
-only i r p k mem x y mem₁ mem₂ out₁ out₂ a b = go (decided rules.paged (r .words) (p .sets) (k .slots) mem)
+  pub started-once : StartedOf l a w₁ s₁ q₁ → StartedOf l a′ w₂ s₂ q₂ → (a ≡ a′) × (w₁ ≡ w₂) × (s₁ ≡ s₂) × (q₁ ≡ q₂)
+  started-once x y =
+      let e = one-state (x .ready .ready .sound) (y .ready .ready .sound) (x .chip ∙ sym (y .chip)) in
+      (x .answer ∙ sym (y .answer), e .0, e .1, e .2)
+
+pub line-once : (l : rules.Layout) (w s q : List ℕ) {a b : Bool} → LinesOf l w s q a → LinesOf l w s q b → a ≡ b
+line-once l w s q {a} {b} x y = go (ready? l w s q)
   where
-    go : Dec (InOrderBy r p k mem) → Same x y mem₁ mem₂ out₁ out₂
-    go (yes o) =
-        let e = right-once (a .done o) (b .done o) in
-        record {
-          returned = λ j. record { answer = e .0 j; registers = record { words = e .1 j }; pages = record { sets = e .2 j }; queues = record { slots = e .3 j } };
-          memory = e .4;
-          output = e .5;
-        }
-    go (no n) = let u = a .broken n in let v = b .broken n in record { returned = u .same ∙ sym (v .same); memory = u .memory ∙ sym (v .memory); output = u .output ∙ sym (v .output) }
+    go : Dec (ReadyOf l w s q) → a ≡ b
+    go (yes o) = x .up o [] ∙ sym (y .up o [])
+    go (no n) = x .down n ∙ sym (y .down n)

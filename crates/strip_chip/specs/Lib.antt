@@ -1,4 +1,2 @@
--- What the public entries of the chip of strips promise, and that each leaves one result.
+-- What the public entries of the chip of strips promise.
 pub mod Entry
-pub mod Rights
-pub mod Once

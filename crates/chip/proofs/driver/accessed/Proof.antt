@@ -1,23 +1,12 @@
 -- The request is the arm's, so that what `read` or `write` promises of the arm's access is promised of the request's.
-use mathlib.Core.Path.{_≡_, sym, subst}
-use mathlib.Core.List.{List, []}
-use Prim.Native.Nat.{ℕ}
-use Rattle.rules.specs.Chip.{Chip}
-use Rattle.rules.specs.Step.{driver, step}
-use Rattle.state.specs.declared.Answer.{Answer}
 use Rattle.state.specs.View.{view}
-use Rattle.state.specs.Entry.{Right}
-use Rattle.chip.specs.declared.driver.Request.{Request}
-use Rattle.chip.specs.Inputs.{accessOf}
+use Rattle.chip.specs.Rights.{as-told}
 use borrow.Author.Needs.{needs}
 use Rattle.chip.proofs.driver.accessed.Statement.{statement}
 use Rattle.chip.proofs.driver.accessed.Tie as tie
 
 enum-known-a : tie.Need-enum-known-a
 enum-known-a c = search needs
-
-as-told : {q k : Request} (c : Chip) {a : Answer} {w s u m : List ℕ} → q ≡ k → Right (step (driver (accessOf k)) c) a w s u m [] → Right (step (driver (accessOf q)) c) a w s u m []
-as-told c {a} {w} {s} {u} {m} e = subst (λ (j : Request). Right (step (driver (accessOf j)) c) a w s u m []) (sym e)
 
 read-requires : tie.Need-read-requires
 read-requires c κs = search needs
