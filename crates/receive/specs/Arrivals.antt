@@ -1,12 +1,13 @@
 -- What the parts of an arrival ask and promise: the rules' definitions at what each part is given.
 use mathlib.Core.Path.{_≡_, refl, ap, sym, _∙_}
-use mathlib.Core.Bool.{Bool}
+use mathlib.Core.Bool.{Bool, true, false, true≢false}
 use mathlib.Core.List.{List, []}
 use Prim.Native.Nat.{ℕ, _/_, _≤_}
 use lib.ListN.{length}
-use Rattle.rules.specs.Chip.{Registers, Layout, paged, resetRegisters}
+use Rattle.rules.specs.Chip.{Registers, Layout, Chip, paged, resetRegisters}
+use Rattle.rules.specs.Answers.{Effect, doneWith}
 use Rattle.rules.specs.Fields.{setRcr, setControl}
-use Rattle.rules.specs.Receive.{Frame, Arrival, stored, disabled, notAccepted, tooLong, bad, noRoom, judge}
+use Rattle.rules.specs.Receive.{Frame, Arrival, stored, disabled, notAccepted, tooLong, bad, noRoom, valueFor, judge, after}
 use Rattle.state.specs.View.{word, registersIn}
 use Rattle.state.specs.Promise.{ReadyOf}
 use Rattle.receive.specs.declared.Verdict.{Verdict}
@@ -20,6 +21,23 @@ arrivalOf NotAccepted = notAccepted
 arrivalOf TooLong = tooLong
 arrivalOf Bad = bad
 arrivalOf NoRoom = noRoom
+
+-- is the frame stored
+abbrev pub isStored : Arrival → Bool
+isStored stored = true
+isStored disabled = false
+isStored notAccepted = false
+isStored tooLong = false
+isStored bad = false
+isStored noRoom = false
+
+pub is-stored : (a : Arrival) → isStored a ≡ true → a ≡ stored
+is-stored stored e = refl
+is-stored disabled e = absurd (true≢false (sym e))
+is-stored notAccepted e = absurd (true≢false (sym e))
+is-stored tooLong e = absurd (true≢false (sym e))
+is-stored bad e = absurd (true≢false (sym e))
+is-stored noRoom e = absurd (true≢false (sym e))
 
 -- so a verdict is known from its arrival
 verdictOf : Arrival → Verdict
@@ -44,6 +62,19 @@ verdict-once a b e = sym (verdict-back a) ∙ ap verdictOf e ∙ verdict-back b
 
 abbrev pub frameOf : List ℕ → Bool → Bool → Frame
 frameOf bytes badCrc alignment = record { bytes = bytes; badCrc = badCrc; alignment = alignment }
+
+-- what becomes of a frame that is not stored, the same of every frame
+abbrev pub turnedAway : Arrival → Chip → Effect
+turnedAway a c = doneWith (valueFor a) (after a (frameOf [] false false) c)
+
+pub any-frame : (a : Arrival) → isStored a ≡ false → (f : Frame) (c : Chip) → turnedAway a c ≡ doneWith (valueFor a) (after a f c)
+unfolding after
+any-frame stored e f c = absurd (true≢false e)
+any-frame disabled e f c = refl
+any-frame notAccepted e f c = refl
+any-frame tooLong e f c = refl
+any-frame bad e f c = refl
+any-frame noRoom e f c = refl
 
 -- Registers with these contents, for a rule that sees no others: the length and the flags of a frame are judged by them.
 abbrev pub withRcr : ℕ → Registers

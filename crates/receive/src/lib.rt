@@ -14,14 +14,14 @@ use state::LATCHES;
 use state::RCR;
 use state::flags;
 ghost use mathlib.Core.Path.{_≡_};
-ghost use mathlib.Core.Bool.{true};
+ghost use mathlib.Core.Bool.{true, false};
 ghost use lib.ListN.{length};
 ghost use Rattle.rules.specs.Answers.{doneWith};
 ghost use Rattle.rules.specs.Fields.{setOverrun, inRegisters};
 ghost use Rattle.rules.specs.Receive.{abort, arrive};
 ghost use Rattle.state.specs.View.{view, Kept};
 ghost use Rattle.state.specs.Promise.{Ready, Does, Makes};
-ghost use Rattle.receive.specs.Arrivals.{frameOf};
+ghost use Rattle.receive.specs.Arrivals.{arrivalOf, isStored, turnedAway, frameOf};
 
 // What becomes of a frame; the answer's value in the order of document 01 is 0 to 5.
 pub enum Verdict {
@@ -33,8 +33,22 @@ pub enum Verdict {
     NoRoom,
 }
 
+// Is the frame stored?
+pub fn is_stored(verdict: Verdict) -> bool
+    ensures { λ b. ⌜ b ≡ isStored (arrivalOf verdict) ⌝ }
+{
+    match verdict {
+        Verdict::Stored => true,
+        Verdict::Disabled => false,
+        Verdict::NotAccepted => false,
+        Verdict::TooLong => false,
+        Verdict::Bad => false,
+        Verdict::NoRoom => false,
+    }
+}
+
 // The frame is not stored, and RX_ABORT says so.
-pub fn aborted(words: &mut [u16], value: u16) -> Answer
+fn aborted(words: &mut [u16], value: u16) -> Answer
     requires { ⌜ Kept (now words) ⌝ }
     ensures { λ a. ⌜ Does (λ c. doneWith value (inRegisters abort c)) (now (words .entry)) a (now (words .exit)) ⌝ }
 {
@@ -43,12 +57,28 @@ pub fn aborted(words: &mut [u16], value: u16) -> Answer
 }
 
 // And for want of room, RX_OVRN.
-pub fn overrun(words: &mut [u16], value: u16) -> Answer
+fn overrun(words: &mut [u16], value: u16) -> Answer
     requires { ⌜ Kept (now words) ⌝ }
     ensures { λ a. ⌜ Does (λ c. doneWith value (inRegisters (λ r. setOverrun true (abort r)) c)) (now (words .entry)) a (now (words .exit)) ⌝ }
 {
     words[LATCHES] = bits::with_set(words[LATCHES], flags::RX_OVRN);
     aborted(words, value)
+}
+
+// A frame that is not stored: the answer's value says why, and of 3 and 5 the registers too.
+pub fn turned_away(words: &mut [u16], verdict: Verdict) -> Answer
+    requires { ⌜ Kept (now words) × (isStored (arrivalOf verdict) ≡ false) ⌝ }
+    ensures { λ a. ⌜ Does (turnedAway (arrivalOf verdict)) (now (words .entry)) a (now (words .exit)) ⌝ }
+{
+    match verdict {
+        // not here
+        Verdict::Stored => Answer::Done(0),
+        Verdict::Disabled => Answer::Done(1),
+        Verdict::NotAccepted => Answer::Done(2),
+        Verdict::TooLong => aborted(words, 3),
+        Verdict::Bad => Answer::Done(4),
+        Verdict::NoRoom => overrun(words, 5),
+    }
 }
 
 // A frame arrives at a chip that is well formed: its bytes with FCS, and two flags.
@@ -68,12 +98,8 @@ pub fn arrived(
         return Answer::OutsideLimits;
     }
     let verdict = judge::judged(words, frame, bad_crc, alignment);
-    match verdict {
-        Verdict::Stored => stow::stowed(words, sets, queues, memory, frame, bad_crc, alignment),
-        Verdict::Disabled => Answer::Done(1),
-        Verdict::NotAccepted => Answer::Done(2),
-        Verdict::TooLong => aborted(words, 3),
-        Verdict::Bad => Answer::Done(4),
-        Verdict::NoRoom => overrun(words, 5),
+    if !is_stored(verdict) {
+        return turned_away(words, verdict);
     }
+    stow::stowed(words, sets, queues, memory, frame, bad_crc, alignment)
 }

@@ -1,12 +1,11 @@
 // A frame arrives. What becomes of it is judged as on the chip of pages, by the registers and the frame alone.
-use receive::Verdict;
-use receive::aborted;
 use receive::count_of;
 use receive::data_length;
+use receive::is_stored;
 use receive::judged;
-use receive::overrun;
 use receive::pages_for;
 use receive::status_of;
+use receive::turned_away;
 use state::Answer;
 use state::RCR;
 ghost use mathlib.Core.Path.{_≡_};
@@ -57,12 +56,8 @@ pub fn arrived(
         return Answer::OutsideLimits;
     }
     let verdict = judged(words, frame, bad_crc, alignment);
-    match verdict {
-        Verdict::Stored => stowed(words, counts, queues, memory, frame, bad_crc, alignment),
-        Verdict::Disabled => Answer::Done(1),
-        Verdict::NotAccepted => Answer::Done(2),
-        Verdict::TooLong => aborted(words, 3),
-        Verdict::Bad => Answer::Done(4),
-        Verdict::NoRoom => overrun(words, 5),
+    if !is_stored(verdict) {
+        return turned_away(words, verdict);
     }
+    stowed(words, counts, queues, memory, frame, bad_crc, alignment)
 }
