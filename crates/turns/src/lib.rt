@@ -2,3 +2,4 @@
 mod turn; // turn.rt: its arms, by what the record asks for
 
 pub use turn::answer;
+pub use turn::gather_more;
