@@ -1,28 +1,20 @@
 -- Records answered one after another.
-use mathlib.Core.Path.{_≡_, refl, ap, ap₂, sym, _∙_}
+use mathlib.Core.Path.{_≡_, refl, ap, ap₂, _∙_}
 use mathlib.Core.Bool.{Bool}
-use mathlib.Core.List.{List, _++_, append-assoc}
+use mathlib.Core.List.{List, _++_}
 use Prim.Native.Nat.{ℕ, suc, _+_, _≤_}
 use native.Mathlib.Omega.{arith}
-use lib.ListN.{length, take, drop, length-append}
-use lib.Seq.{length-take-le, take-at}
+use lib.ListN.{length, take}
 use Rattle.rules.specs.Bench.{Bench, Answered, Form, answer, eventOf}
 use Rattle.rules.specs.Watch.{isSend}
-use Rattle.lists.specs.Written.{Writes}
 use Rattle.state.specs.declared.Answer.{Answer}
 use Rattle.state.specs.Meaning.{replyOf}
 use Rattle.state.specs.View.{view}
 use Rattle.records.specs.Gathers.{holding}
-use Rattle.serving.specs.Turns.{Held, Turns}
+use Rattle.records.specs.Parts.{taken}
+use Rattle.turns.specs.Turns.{Held, Turns}
 use Rattle.serving.specs.Batch as batch
 use Rattle.serving.specs.Batch.{formOf, Prints, recordAt, benchAfter, linesFor}
-
--- What stands before the place behind a piece of text: what stood before it, and the text.
-pub taken : {before after text : List ℕ} {at end : ℕ} → at ≤ length before → Writes before at text after end → take end after ≡ take at before ++ text
-taken {before} {after} {text} {at} {end} h w =
-    let front : length (take at before ++ text) ≡ end = length-append (take at before) text ∙ omega (arith, length-take-le at before h, w .place) in
-    ap (take end) (w .buffer ∙ sym (append-assoc (take at before) text (drop (at + length text) before)))
-    ∙ take-at (take at before ++ text) (drop (at + length text) before) end front
 
 -- No record is answered yet.
 pub none-yet : {form : Form} {k number : ℕ} (input w s q mem wire : List ℕ) (have : ℕ) (out lines : List ℕ) → number ≡ k → Held w s q mem wire have

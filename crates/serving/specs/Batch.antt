@@ -12,7 +12,7 @@ use Rattle.state.specs.Meaning.{replyOf}
 use Rattle.state.specs.View.{view, figures}
 use Rattle.state.specs.Promise.{QueuesIn}
 use Rattle.records.specs.Gathers.{holding}
-use Rattle.serving.specs.Turns.{Held}
+use Rattle.turns.specs.Turns.{Held}
 
 -- the form of a program's lines: that of `watch`, or the bench's
 abbrev pub formOf : Bool → Form

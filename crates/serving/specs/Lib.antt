@@ -1,5 +1,4 @@
--- What one step and a run of steps of the bench promise.
-pub mod Turns
+-- What a run of steps of the bench promises, and what is printed for it.
 pub mod Batch
 pub mod Printed
 pub mod Once

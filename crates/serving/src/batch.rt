@@ -1,5 +1,4 @@
 // The records at hand: each complete one is answered, and its line joins the lines to be written.
-use crate::turn::answer;
 use records::Counter;
 use state::Answer;
 ghost use mathlib.Core.Path.{_≡_};
@@ -10,7 +9,7 @@ ghost use Rattle.state.specs.View.{view, figures, Kept};
 ghost use Rattle.state.specs.Promise.{QueuesIn};
 ghost use Rattle.records.specs.Counting.{Counts};
 ghost use Rattle.records.specs.Gathers.{holding};
-ghost use Rattle.serving.specs.Turns.{Held};
+ghost use Rattle.turns.specs.Turns.{Held};
 ghost use Rattle.serving.specs.Batch.{formOf, widest, roomFor, Prints, Answered};
 ghost use Rattle.serving.specs.Printed.{lastLine};
 
@@ -91,7 +90,7 @@ pub fn answer_all(
     let mut counter = records::counter_of(*number);
     while k < input.len() / 8 {
         let bytes = &input[8 * k..8 * k + 8];
-        let given = answer(words, sets, queues, memory, wire, have, out, bytes);
+        let given = turns::answer(words, sets, queues, memory, wire, have, out, bytes);
         let sent = records::is_send(bytes);
         *end = print(watching, lines, *end, counter, given, sent, words, out);
         counter = records::next(counter);

@@ -8,7 +8,7 @@ ghost use Prim.Native.Nat.{ℕ, _+_, _-_, _/_, _%_, _≤_, _<_};
 ghost use lib.ListN.{length, take, drop};
 ghost use Rattle.state.specs.View.{figures, Kept};
 ghost use Rattle.state.specs.Promise.{QueuesIn};
-ghost use Rattle.serving.specs.Turns.{Held};
+ghost use Rattle.turns.specs.Turns.{Held};
 ghost use Rattle.serving.specs.Batch.{roomFor};
 
 // The bytes behind the last complete record go to the front; returns how many they are.

@@ -1,14 +1,14 @@
 -- Of no bytes nothing; else the line that `print` writes at the front, for a record of unknown kind.
 use borrow.Author.Needs.{needs}
-use mathlib.Core.Path.{_≡_, ap, sym, _∙_}
+use mathlib.Core.Path.{ap, sym, _∙_}
 use Prim.Native.Nat.{ℕ}
 use native.Mathlib.Omega.{arith}
 use Rattle.rules.specs.Bench.{unknown, answer}
 use Rattle.state.specs.View.{view}
 use Rattle.records.specs.Gathers.{holding}
 use Rattle.records.specs.Counting.{counter-number, counter-counts}
+use Rattle.records.specs.Parts.{taken}
 use Rattle.serving.specs.Batch.{formOf}
-use Rattle.serving.proofs.Runs.{taken}
 use Rattle.serving.proofs.Forms.{last-none, last-some, unknown-unsent, room-none, room-more}
 use Rattle.serving.proofs.batch.last_line.Statement.{statement}
 use Rattle.serving.proofs.batch.last_line.Tie as tie

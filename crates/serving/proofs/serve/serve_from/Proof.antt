@@ -5,8 +5,7 @@ use Prim.Native.Nat.{_+_, _*_, _-_, _/_, _≤_, _<_}
 use native.Mathlib.Omega.{arith}
 use lib.ListN.{length}
 use lib.Seq.{length-take-le}
-use Rattle.serving.specs.Turns.{Held}
-use Rattle.serving.specs.Batch.{roomFor}
+use Rattle.turns.specs.Turns.{Held}
 use Rattle.serving.proofs.Forms.{room-within}
 use Rattle.serving.proofs.serve.serve_from.Statement.{statement}
 use Rattle.serving.proofs.serve.serve_from.Tie as tie

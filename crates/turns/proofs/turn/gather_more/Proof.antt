@@ -2,8 +2,8 @@ use mathlib.Core.Path.{subst}
 use Rattle.records.specs.declared.gather.Gathering.{Gathering}
 use Rattle.records.specs.Gathers.{Gathers}
 use borrow.Author.Needs.{needs}
-use Rattle.serving.proofs.turn.gather_more.Statement.{statement}
-use Rattle.serving.proofs.turn.gather_more.Tie as tie
+use Rattle.turns.proofs.turn.gather_more.Statement.{statement}
+use Rattle.turns.proofs.turn.gather_more.Tie as tie
 
 returns : tie.Need-returns
 returns c =

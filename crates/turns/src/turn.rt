@@ -1,4 +1,4 @@
-// One step of the bench: a record, and what becomes of it.
+// A record, by what it asks for.
 use records::Event;
 use records::Gathering;
 use state::Answer;
@@ -12,10 +12,10 @@ ghost use Rattle.receive.specs.Arrivals.{frameOf};
 ghost use Rattle.records.specs.Gathers.{holding};
 ghost use Rattle.state.specs.View.{view};
 ghost use Rattle.state.specs.Entry.{Right};
-ghost use Rattle.serving.specs.Turns.{Held, Turns, Gathered};
+ghost use Rattle.turns.specs.Turns.{Held, Turns, Gathered};
 
-// Wire bytes join those gathered, or are refused.
-fn gather_more(wire: &mut [u8], have: &mut usize, bytes: &[u8], count: u8) -> Answer
+// Wire bytes join those gathered, or are refused. This looks at no chip.
+pub fn gather_more(wire: &mut [u8], have: &mut usize, bytes: &[u8], count: u8) -> Answer
     requires { ⌜ (length (now wire) ≡ 2048) × (now have ≤ 2048) × (length (now bytes) ≡ 8) ⌝ }
     ensures { λ a. ⌜ Gathered (now (wire .entry)) (now (have .entry)) (now (bytes .entry)) count a (now (wire .exit)) (now (have .exit)) ⌝ }
 {
@@ -45,7 +45,7 @@ fn frame_ends(
 {
     let n = *have;
     *have = 0;
-    chip::arrived(words, sets, queues, memory, &wire[0..n], crc, align)
+    chip::arrived(words, sets, queues, memory, &wire[..n], crc, align)
 }
 
 // A record of eight bytes.

@@ -1,0 +1,83 @@
+-- By the event that the record is.
+use borrow.Author.Needs.{needs}
+use mathlib.Core.Path.{_≡_}
+use Rattle.rules.specs.Bench.{eventOf}
+use Rattle.records.specs.declared.event.Event.{Event}
+use Rattle.records.specs.Event.{meant}
+use Rattle.turns.specs.Steps.{told, turns-as, access-turns, frame-turns, send-turns, wire-turns, unknown-turns}
+use Rattle.turns.proofs.turn.answer.Statement.{statement}
+use Rattle.turns.proofs.turn.answer.Tie as tie
+
+-- the record's event is the arm's
+as-told : (d : tie.After-event-of) {k : Event} → d .event-of .result ≡ k → eventOf (d .before .before .before .before .before .before .before .before .args .bytes .now) ≡ meant k (d .before .before .before .before .before .before .before .before .args .bytes .now)
+as-told d = told (d .before .before .before .before .before .before .before .before .args .bytes .now) (d .event-of .ensures)
+
+returns : tie.Need-returns
+returns c =
+    let d = c .before .before .before .before .before .before .before .before .before .before in
+    turns-as _ (as-told d (c .before .before .before .before .before .before .before .before .event .given .1)) (access-turns _ (d .before .before .before .before .before .before .before .before .pre .0) _ (c .before .before .read .ensures))
+
+returns-2 : tie.Need-returns-2
+returns-2 c =
+    let d = c .before .before .before .before .before .before .before .before .before .before .before .before .before .before .before .before in
+    turns-as _ (as-told d (c .before .before .before .before .before .before .before .before .before .before .before .before .before .before .event2 .given .1)) (access-turns _ (d .before .before .before .before .before .before .before .before .pre .0) _ (c .before .before .before .before .before .before .before .before .write .ensures))
+
+returns-3 : tie.Need-returns-3
+returns-3 c =
+    let d = c .before .before .before .before .before .before .before .before in
+    turns-as _ (as-told d (c .before .before .before .before .before .before .event3 .given .1)) (wire-turns _ (d .before .before .before .before .before .before .before .before .pre .0) (c .before .before .gather-more .ensures))
+
+returns-4 : tie.Need-returns-4
+returns-4 c =
+    let d = c .before .before .before .before .before .before .before .before .before .before .before .before .before .before .before .before .before .before in
+    turns-as _ (as-told d (c .before .before .before .before .before .before .before .before .before .before .before .before .before .before .before .before .event4 .given .1)) (frame-turns _ (d .before .before .before .before .before .before .before .before .pre .0) _ _ (c .before .before .before .before .before .before .before .before .frame-ends .ensures))
+
+returns-5 : tie.Need-returns-5
+returns-5 c =
+    let d = c .before .before .before .before .before .before .before .before .before .before .before .before .before .before .before .before .before .before .before in
+    turns-as _ (as-told d (c .before .before .before .before .before .before .before .before .before .before .before .before .before .before .before .before .before .event5 .given .1)) (send-turns (d .before .before .before .before .before .before .before .before .args .out .now) (d .before .before .before .before .before .before .before .before .pre .0) _ (c .before .before .before .before .before .before .before .before .before .before .finished .ensures))
+
+returns-6 : tie.Need-returns-6
+returns-6 c = let d = c .before .before in turns-as _ (as-told d (c .enum-told .given .1)) (unknown-turns _ (d .before .before .before .before .before .before .before .before .pre .0))
+
+pub answer-spec : {M : Type 1} → statement M
+answer-spec =
+    tie.close
+    (tie.spec
+    (λ c κs. search needs)
+    (λ c. search needs)
+    (λ c κs. search needs)
+    (λ c. search needs)
+    (λ c κs. search needs)
+    (λ c. search needs)
+    (λ c κs. search needs)
+    (λ c. search needs)
+    (λ c κs. search needs)
+    (λ c. search needs)
+    (λ c κs. search needs)
+    (λ c. search needs)
+    (λ c. search needs)
+    (λ c. search needs)
+    (λ c. search needs)
+    (λ c. search needs)
+    returns
+    (λ c. search needs)
+    (λ c. search needs)
+    (λ c. search needs)
+    (λ c. search needs)
+    returns-2
+    (λ c. search needs)
+    returns-3
+    (λ c. search needs)
+    (λ c. search needs)
+    (λ c. search needs)
+    (λ c. search needs)
+    (λ c. search needs)
+    returns-4
+    (λ c. search needs)
+    (λ c. search needs)
+    (λ c. search needs)
+    (λ c. search needs)
+    (λ c. search needs)
+    returns-5
+    returns-6)
