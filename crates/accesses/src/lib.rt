@@ -3,17 +3,21 @@ mod reads; // reads.rt: reads
 mod writes; // writes.rt: writes
 
 pub use reads::read;
+pub use reads::read_ecr;
 pub use reads::read_register;
 use state::BANK;
 use state::Width;
 pub use writes::write;
 pub use writes::write_register;
 ghost use mathlib.Core.Path.{_≡_};
-ghost use Prim.Native.Nat.{_/_};
-ghost use lib.Dec.{eqb};
 ghost use lib.ListN.{length};
 ghost use Rattle.accesses.specs.Lanes.{wide};
 ghost use Rattle.accesses.specs.Reach.{placeOf};
+
+// Data's two places: bank 2, offsets 8 to B.
+pub const DATA: usize = 20;
+
+pub const DATA_1: usize = 21;
 
 // Does the access move two bytes of data?
 pub fn is_wide(width: Width) -> bool
@@ -31,11 +35,4 @@ pub fn place(words: &[u16], offset: u8) -> usize
     ensures { λ r. ⌜ r ≡ placeOf (now (words .entry)) offset ⌝ }
 {
     words[BANK] as usize % 8 * 8 + offset as usize / 2
-}
-
-// Is it data's place: bank 2, offsets 8 to B?
-pub fn is_data(at: usize) -> bool
-    ensures { λ b. ⌜ b ≡ eqb (at / 2) 10 ⌝ }
-{
-    at / 2 == 10
 }

@@ -1,5 +1,6 @@
 // Reads.
-use crate::is_data;
+use crate::DATA;
+use crate::DATA_1;
 use crate::is_wide;
 use crate::place;
 use state::Answer;
@@ -43,21 +44,22 @@ fn gives(width: Width, offset: u8, word: u16) -> Answer
     Answer::Done(state::taken(width, offset, word))
 }
 
-// A read of the register at a place that is not data's: it looks at no packet's pages. Neighbouring places are dealt out to two arms with one body, for the compiler
-// alone: a run of places in one arm is tested once more behind its table, by up to 8 instructions.
-pub fn read_register(
-    words: &mut [u16],
-    queues: &[u8],
-    at: usize,
-    width: Width,
-    offset: u8,
-) -> Answer
-    requires { ⌜ Kept (now words) × QueuesIn (figures (now words)) (now queues) × Placed width offset × (at ≡ placeOf (now words) offset) × (at / 2 ≡ 10 → ⊥) × ((l : Layout) × (s : List ℕ) × PagesIn l (figures (now words)) s) ⌝ }
+// A read of ECR, the one register that a read clears.
+pub fn read_ecr(words: &mut [u16], queues: &[u8], width: Width, offset: u8) -> Answer
+    requires { ⌜ Kept (now words) × QueuesIn (figures (now words)) (now queues) × Placed width offset × (placeOf (now words) offset ≡ 3) × ((l : Layout) × (s : List ℕ) × PagesIn l (figures (now words)) s) ⌝ }
     ensures done { λ a. ⌜ ((l : Layout) (s mem : List ℕ) → PagesIn l (figures (now (words .entry))) s → MakesOf l (rules.access (rules.read (widthOf width) offset) (viewOf l (now (words .entry)) s (now (queues .entry)) mem)) a (now (words .exit)) s (now (queues .entry)) mem) ⌝ }
     ensures long { λ a. ⌜ length (now (words .exit)) ≡ 32 ⌝ }
 {
+    gives(width, offset, registers::read_ecr(words))
+}
+
+// A read of the register at a place that is not data's or ECR's: it looks at no packet's pages, and changes nothing. Neighbouring places are dealt out to two arms with
+// one body, for the compiler alone: a run of places in one arm is tested once more behind its table, by up to 8 instructions.
+pub fn read_register(words: &[u16], queues: &[u8], at: usize, width: Width, offset: u8) -> Answer
+    requires { ⌜ Kept (now words) × QueuesIn (figures (now words)) (now queues) × Placed width offset × (at ≡ placeOf (now words) offset) × (at / 2 ≡ 10 → ⊥) × (at ≡ 3 → ⊥) × ((l : Layout) × (s : List ℕ) × PagesIn l (figures (now words)) s) ⌝ }
+    ensures { λ a. ⌜ ((l : Layout) (s mem : List ℕ) → PagesIn l (figures (now (words .entry))) s → MakesOf l (rules.access (rules.read (widthOf width) offset) (viewOf l (now (words .entry)) s (now (queues .entry)) mem)) a (now (words .entry)) s (now (queues .entry)) mem) ⌝ }
+{
     match at {
-        ECR => gives(width, offset, registers::read_ecr(words)),
         MIR => gives(width, offset, words[MIR]),
         HEADS => gives(width, offset, registers::heads(words, queues)),
         INTERRUPT => gives(width, offset, registers::interrupt(words)),
@@ -79,7 +81,7 @@ pub fn read_register(
     }
 }
 
-// A read: of data, or of another register.
+// A read: of data, of ECR, or of another register. Each of data's places has an arm of its own, for the compiler alone: this table and that of `read_register` are one to it then.
 pub fn read(
     words: &mut [u16],
     sets: &[u32],
@@ -95,8 +97,11 @@ pub fn read(
         return Answer::Misplaced;
     }
     let at = place(words, offset);
-    if is_data(at) {
-        return data::read_data(words, sets, queues, memory, is_wide(width));
+    match at {
+        DATA => {}
+        DATA_1 => {}
+        ECR => return read_ecr(words, queues, width, offset),
+        _ => return read_register(words, queues, at, width, offset),
     }
-    read_register(words, queues, at, width, offset)
+    data::read_data(words, sets, queues, memory, is_wide(width))
 }

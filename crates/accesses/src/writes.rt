@@ -1,5 +1,6 @@
 // Writes.
-use crate::is_data;
+use crate::DATA;
+use crate::DATA_1;
 use crate::is_wide;
 use crate::place;
 use state::Answer;
@@ -86,7 +87,7 @@ pub fn write_register(
     }
 }
 
-// A write: to data, to one of the two registers that may free or grant pages, or to another.
+// A write: to data, to one of the two registers that may free or grant pages, or to another. Data's places are as in `read`.
 pub fn write(
     words: &mut [u16],
     sets: &mut [u32],
@@ -103,12 +104,12 @@ pub fn write(
         return Answer::Misplaced;
     }
     let at = place(words, offset);
-    if is_data(at) {
-        return data::write_data(words, sets, queues, memory, is_wide(width), value);
-    }
     match at {
-        RCR => registers::write_rcr(words, sets, queues, width, offset, value),
-        COMMAND => write_command(words, sets, queues, width, offset, value),
-        _ => write_register(words, queues, at, width, offset, value),
+        DATA => {}
+        DATA_1 => {}
+        RCR => return registers::write_rcr(words, sets, queues, width, offset, value),
+        COMMAND => return write_command(words, sets, queues, width, offset, value),
+        _ => return write_register(words, queues, at, width, offset, value),
     }
+    data::write_data(words, sets, queues, memory, is_wide(width), value)
 }

@@ -3,8 +3,11 @@ use crate::access::read_data;
 use crate::access::write_data;
 use crate::orders::write_command;
 use crate::resets::write_rcr;
+use accesses::DATA;
+use accesses::DATA_1;
 use state::Answer;
 use state::COMMAND;
+use state::ECR;
 use state::RCR;
 use state::Width;
 ghost use mathlib.Core.Path.{_≡_};
@@ -15,7 +18,7 @@ ghost use Rattle.state.specs.Meaning.{widthOf};
 ghost use Rattle.state.specs.View.{viewOf};
 ghost use Rattle.state.specs.Promise.{ReadyOf, MakesOf};
 
-// A read: of data, or of another register.
+// A read: of data, of ECR, or of another register. Data's places are as in `accesses::read`.
 pub fn read(
     words: &mut [u16],
     counts: &[u32],
@@ -31,10 +34,13 @@ pub fn read(
         return Answer::Misplaced;
     }
     let at = accesses::place(words, offset);
-    if accesses::is_data(at) {
-        return read_data(words, counts, queues, memory, accesses::is_wide(width));
+    match at {
+        DATA => {}
+        DATA_1 => {}
+        ECR => return accesses::read_ecr(words, queues, width, offset),
+        _ => return accesses::read_register(words, queues, at, width, offset),
     }
-    accesses::read_register(words, queues, at, width, offset)
+    read_data(words, counts, queues, memory, accesses::is_wide(width))
 }
 
 // A write: to data, to one of the two registers that may free or grant pages, or to another.
@@ -54,19 +60,19 @@ pub fn write(
         return Answer::Misplaced;
     }
     let at = accesses::place(words, offset);
-    if accesses::is_data(at) {
-        return write_data(
-            words,
-            counts,
-            queues,
-            memory,
-            accesses::is_wide(width),
-            value,
-        );
-    }
     match at {
-        RCR => write_rcr(words, counts, queues, width, offset, value),
-        COMMAND => write_command(words, counts, queues, width, offset, value),
-        _ => accesses::write_register(words, queues, at, width, offset, value),
+        DATA => {}
+        DATA_1 => {}
+        RCR => return write_rcr(words, counts, queues, width, offset, value),
+        COMMAND => return write_command(words, counts, queues, width, offset, value),
+        _ => return accesses::write_register(words, queues, at, width, offset, value),
     }
+    write_data(
+        words,
+        counts,
+        queues,
+        memory,
+        accesses::is_wide(width),
+        value,
+    )
 }

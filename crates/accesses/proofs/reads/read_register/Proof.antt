@@ -62,81 +62,84 @@ arms =
     ∷ (22 ∷ [])
     ∷ (18 ∷ [])
     ∷ (4 ∷ [])
-    ∷ (3 ∷ [])
     ∷ []
 
-slice-read-gives-3 : tie.Need-slice-read-gives-3
+shared-slice-read-gives-3 : tie.Need-shared-slice-read-gives-3
 unfolding allBelow
-slice-read-gives-3 c =
+shared-slice-read-gives-3 c =
     let m = c .before in
     let s = m .before .before .before in
-    let k = key-below 32 (0 ∷ 2 ∷ 10 ∷ 12 ∷ 14 ∷ 16 ∷ 19 ∷ 24 ∷ 26 ∷ []) _ refl (m .match .keys8) in
-    omega (arith, s .pre .0 .whole)
+    let k = key-below 32 (0 ∷ 2 ∷ 10 ∷ 12 ∷ 14 ∷ 16 ∷ 19 ∷ 24 ∷ 26 ∷ []) _ refl (m .match .keys7) in
+    omega (arith)
 
-slice-read-gives-4 : tie.Need-slice-read-gives-4
+shared-slice-read-gives-4 : tie.Need-shared-slice-read-gives-4
 unfolding allBelow
-slice-read-gives-4 c =
+shared-slice-read-gives-4 c =
     let m = c .before in
     let s = m .before .before .before in
-    let k = key-below 32 (1 ∷ 5 ∷ 11 ∷ 17 ∷ 25 ∷ 27 ∷ []) _ refl (m .match .keys9) in
-    omega (arith, s .pre .0 .whole)
+    let k = key-below 32 (1 ∷ 5 ∷ 11 ∷ 17 ∷ 25 ∷ 27 ∷ []) _ refl (m .match .keys8) in
+    omega (arith)
 
--- ECR, MIR, and what is found for each read
+-- MIR, and what is found for each read
 returns : tie.Need-returns
 unfolding registerIn registerAt
 returns c =
-    let m = c .before .before .before .before .before in
+    let m = c .before .before in
     let s = m .before .before .before in
-    let e = c .before .before .before .read-ecr .ensures in
-    (λ l n mem h. answered (c .gives .ensures) (plain s 3 (m .match .keys1) (e .1 .0 (lanes s)) l n mem h), e .1 .1)
+    λ l n mem h. answered (c .gives .ensures) (reached s 4 (m .match .keys1) (λ i k x y. reads-mir (lanes s) _ _ _ (sound s y) x) l n mem h)
 
 returns-2 : tie.Need-returns-2
 unfolding registerIn registerAt
 returns-2 c =
     let m = c .before .before in
     let s = m .before .before .before in
-    (λ l n mem h. answered (c .gives2 .ensures) (reached s 4 (m .match .keys2) (λ i k x y. reads-mir (lanes s) _ _ _ (sound s y) x) l n mem h), s .pre .0 .whole)
+    λ l n mem h. answered (c .gives2 .ensures) (reached s 18 (m .match .keys2) (λ i k x y. reads-heads (lanes s) _ _ _ (sound s y) _ (c .before .heads .ensures) x) l n mem h)
 
 returns-3 : tie.Need-returns-3
 unfolding registerIn registerAt
 returns-3 c =
-    let m = c .before .before .before in
+    let m = c .before .before in
     let s = m .before .before .before in
-    (λ l n mem h. answered (c .gives3 .ensures) (reached s 18 (m .match .keys3) (λ i k x y. reads-heads (lanes s) _ _ _ (sound s y) _ (c .before .heads .ensures) x) l n mem h), s .pre .0 .whole)
+    λ l n mem h. answered (c .gives3 .ensures) (reached s 22 (m .match .keys3) (λ i k x y. reads-interrupt (lanes s) _ _ _ (sound s y) _ (c .before .interrupt .ensures) x) l n mem h)
 
+-- the bank
 returns-4 : tie.Need-returns-4
 unfolding registerIn registerAt
 returns-4 c =
-    let m = c .before .before .before in
-    let s = m .before .before .before in
-    (λ l n mem h. answered (c .gives4 .ensures) (reached s 22 (m .match .keys4) (λ i k x y. reads-interrupt (lanes s) _ _ _ (sound s y) _ (c .before .interrupt .ensures) x) l n mem h), s .pre .0 .whole)
-
--- the bank
-returns-5 : tie.Need-returns-5
-unfolding registerIn registerAt
-returns-5 c =
     let m = c .before .before in
     let s = m .before .before .before in
     let bank = reads-bank (lanes s) (words s) (s .pre .0) in
-    let shown = by-key (λ (k : ℕ). Shows (registerIn k) (lanes s) (words s) (word (words s) 7)) (7 ∷ 15 ∷ 23 ∷ 31 ∷ 39 ∷ 47 ∷ 55 ∷ 63 ∷ []) _ (m .match .keys5) bank bank bank bank bank bank bank bank in
-    (λ l n mem h. answered (c .gives5 .ensures) (plain s _ refl shown l n mem h), s .pre .0 .whole)
+    let shown = by-key (λ (k : ℕ). Shows (registerIn k) (lanes s) (words s) (word (words s) 7)) (7 ∷ 15 ∷ 23 ∷ 31 ∷ 39 ∷ 47 ∷ 55 ∷ 63 ∷ []) _ (m .match .keys4) bank bank bank bank bank bank bank bank in
+    λ l n mem h. answered (c .gives4 .ensures) (plain s _ refl shown l n mem h)
 
 -- not modelled
+returns-5 : tie.Need-returns-5
+unfolding registerIn registerAt
+returns-5 c =
+    let s = c .before .before .before in
+    let none = reads-absent (lanes s) (words s) (s .pre .0) in
+    plain s _ refl (by-key (λ (k : ℕ). Does (readRegister (registerIn k) (lanes s)) (words s) NotModelled (words s)) (6 ∷ 8 ∷ 13 ∷ 28 ∷ 30 ∷ 32 ∷ 34 ∷ 36 ∷ 38 ∷ []) _ (c .match .keys5) none none none none none none none none none)
+
 returns-6 : tie.Need-returns-6
 unfolding registerIn registerAt
 returns-6 c =
     let s = c .before .before .before in
     let none = reads-absent (lanes s) (words s) (s .pre .0) in
-    (plain s _ refl (by-key (λ (k : ℕ). Does (readRegister (registerIn k) (lanes s)) (words s) NotModelled (words s)) (6 ∷ 8 ∷ 13 ∷ 28 ∷ 30 ∷ 32 ∷ 34 ∷ 36 ∷ 38 ∷ []) _ (c .match .keys6) none none none none none none none none none), s .pre .0 .whole)
+    plain s _ refl (by-key (λ (k : ℕ). Does (readRegister (registerIn k) (lanes s)) (words s) NotModelled (words s)) (9 ∷ 29 ∷ 33 ∷ 35 ∷ 37 ∷ []) _ (c .match .keys6) none none none none none)
 
+-- the words
 returns-7 : tie.Need-returns-7
 unfolding registerIn registerAt
 returns-7 c =
-    let s = c .before .before .before in
-    let none = reads-absent (lanes s) (words s) (s .pre .0) in
-    (plain s _ refl (by-key (λ (k : ℕ). Does (readRegister (registerIn k) (lanes s)) (words s) NotModelled (words s)) (9 ∷ 29 ∷ 33 ∷ 35 ∷ 37 ∷ []) _ (c .match .keys7) none none none none none), s .pre .0 .whole)
+    let m = c .before .before in
+    let s = m .before .before .before in
+    let p = lanes s in
+    let w = words s in
+    let k = s .pre .0 in
+    let shown = by-key (λ (j : ℕ). Shows (registerIn j) p w (word w j)) (0 ∷ 2 ∷ 10 ∷ 12 ∷ 14 ∷ 16 ∷ 19 ∷ 24 ∷ 26 ∷ []) _ (m .match .keys7)
+    (reads-tcr p w k) (reads-rcr p w k) (reads-station-0 p w k) (reads-station-2 p w k) (reads-control p w k) (reads-command p w k) (reads-pointer p w k) (reads-table-0 p w k) (reads-table-2 p w k) in
+    λ l n mem h. answered (c .gives5 .ensures) (plain s _ refl shown l n mem h)
 
--- the words
 returns-8 : tie.Need-returns-8
 unfolding registerIn registerAt
 returns-8 c =
@@ -145,62 +148,44 @@ returns-8 c =
     let p = lanes s in
     let w = words s in
     let k = s .pre .0 in
-    let shown = by-key (λ (j : ℕ). Shows (registerIn j) p w (word w j)) (0 ∷ 2 ∷ 10 ∷ 12 ∷ 14 ∷ 16 ∷ 19 ∷ 24 ∷ 26 ∷ []) _ (m .match .keys8)
-    (reads-tcr p w k) (reads-rcr p w k) (reads-station-0 p w k) (reads-station-2 p w k) (reads-control p w k) (reads-command p w k) (reads-pointer p w k) (reads-table-0 p w k) (reads-table-2 p w k) in
-    (λ l n mem h. answered (c .gives6 .ensures) (plain s _ refl shown l n mem h), s .pre .0 .whole)
-
-returns-9 : tie.Need-returns-9
-unfolding registerIn registerAt
-returns-9 c =
-    let m = c .before .before in
-    let s = m .before .before .before in
-    let p = lanes s in
-    let w = words s in
-    let k = s .pre .0 in
-    let shown = by-key (λ (j : ℕ). Shows (registerIn j) p w (word w j)) (1 ∷ 5 ∷ 11 ∷ 17 ∷ 25 ∷ 27 ∷ []) _ (m .match .keys9)
+    let shown = by-key (λ (j : ℕ). Shows (registerIn j) p w (word w j)) (1 ∷ 5 ∷ 11 ∷ 17 ∷ 25 ∷ 27 ∷ []) _ (m .match .keys8)
     (reads-ephsr p w k) (reads-reserved p w k) (reads-station-1 p w k) (reads-packet p w k) (reads-table-1 p w k) (reads-table-3 p w k) in
-    (λ l n mem h. answered (c .gives7 .ensures) (plain s _ refl shown l n mem h), s .pre .0 .whole)
+    λ l n mem h. answered (c .gives6 .ensures) (plain s _ refl shown l n mem h)
 
 -- banks 5 to 7
-returns-10 : tie.Need-returns-10
+returns-9 : tie.Need-returns-9
 unfolding passed inSome member
-returns-10 c =
+returns-9 c =
     let m = c .before in
     let s = m .before .before .before in
-    let unused = unused-left arms refl (s .args .at) (omega (arith, s .pre .3, place-below _ _ (words s) (s .pre .0) (s .pre .2))) (s .pre .4) (m .match .rest) in
-    (λ l n mem h. answered (c .gives8 .ensures) (plain s _ refl (subst (λ (x : rules.Register). Shows x (lanes s) (words s) 0x3333) (sym unused) (reads-unused (lanes s) (words s) (s .pre .0))) l n mem h), s .pre .0 .whole)
+    let unused = unused-left ((3 ∷ []) ∷ arms) refl (s .args .at) (omega (arith, s .pre .3, place-below _ _ (words s) (s .pre .0) (s .pre .2))) (s .pre .4) (m .match .rest, s .pre .5) in
+    λ l n mem h. answered (c .gives7 .ensures) (plain s _ refl (subst (λ (x : rules.Register). Shows x (lanes s) (words s) 0x3333) (sym unused) (reads-unused (lanes s) (words s) (s .pre .0))) l n mem h)
 
 pub read-register-spec : {M : Type 1} → statement M
 read-register-spec =
     tie.close
     (tie.spec
-    (λ c κs. search needs)
-    (λ c κs. search needs)
     (λ c. search needs)
     (λ c κs. search needs)
-    (λ c κs. let s = c .before .before .before .before in (s .pre .0, s .pre .1))
+    (λ c κs. let s = c .before .before .before in (s .pre .0, s .pre .1))
     (λ c κs. search needs)
-    (λ c κs. let s = c .before .before .before .before in (s .pre .0, (queues s, s .pre .1)))
+    (λ c κs. let s = c .before .before .before in (s .pre .0, (queues s, s .pre .1)))
     (λ c κs. search needs)
     (λ c. search needs)
     (λ c κs. search needs)
     (λ c. search needs)
-    slice-read-gives-3
+    shared-slice-read-gives-3
     (λ c κs. search needs)
     (λ c. search needs)
-    slice-read-gives-4
+    shared-slice-read-gives-4
     (λ c κs. search needs)
     (λ c κs. search needs)
-    (λ c. c .before .before .before .read-ecr .ensures .1 .1 ∙ sym (c .before .before .before .before .before .before .before .before .pre .0 .whole))
     returns
     returns-2
-    (λ c. search needs)
     returns-3
-    (λ c. search needs)
     returns-4
     returns-5
     returns-6
     returns-7
     returns-8
-    returns-9
-    returns-10)
+    returns-9)

@@ -2,9 +2,10 @@
 use borrow.Author.Needs.{needs}
 use mathlib.Core.Path.{_≡_, refl, ap, sym, subst, _∙_}
 use mathlib.Core.Bool.{false}
+use mathlib.Core.Logic.{⊎-elim}
 use mathlib.Core.List.{List}
 use Prim.Native.Nat.{ℕ, _/_}
-use borrow.Author.Tests.{eqb-true, eqb-false}
+use native.Mathlib.Omega.{arith}
 use Rattle.rules.specs.Chip.{paged}
 use Rattle.rules.specs.Registers as rules
 use Rattle.rules.specs.Registers.{Register, misplaced, DATA, RCR, COMMAND, lanesAt, registerAt, writeRegister, access}
@@ -26,8 +27,8 @@ placed : (e : tie.Else1) → misplaced (widthOf (start e .args .width)) (start e
 placed e = sym (e .before .misplaced .ensures) ∙ e .if1 .left
 
 -- where its register stands
-abbrev else-at : tie.After-is-data → tie.Else1
-else-at d = d .before .before .before
+abbrev else-at : tie.After-place → tie.Else1
+else-at d = d .before .before
 
 abbrev place : tie.Start → ℕ
 place s = placeOf (s .args .words .now) (s .args .offset)
@@ -45,52 +46,53 @@ there e r {a} {w} {n} {q} {m} x p =
 returns : tie.Need-returns
 returns c = let s = c .before .before .before .before .before .before in write-nowhere _ _ _ (s .pre .0 .sound) (sym (c .before .misplaced .ensures) ∙ c .if1 .taken)
 
--- data
-returns-2 : tie.Need-returns-2
-returns-2 c =
-    let r = c .before .before .before .before in
-    let t = r .before .before .before .before .before .before in
-    let d = t .before in
-    let e = else-at d in
-    let s = start e in
-    there e DATA (sym (ap registerIn (d .before .place .ensures)) ∙ at-data _ (eqb-true (d .before .place .result / 2) 10 (sym (d .is-data .ensures) ∙ t .if2 .taken)))
-    (makes-as (writes-data (s .args .width) (s .args .offset) (s .args .value) _) (rw (r .before .is-wide .ensures) at (r .write-data .ensures)))
-
 -- RCR, and commands
+returns-2 : tie.Need-returns-2
+unfolding registerIn registerAt
+returns-2 c =
+    let r = c .before .before .before .before .before .before in
+    let m = r .before .before .before .before in
+    let d = m .before in
+    let e = else-at d in
+    there e RCR (sym (ap registerIn (d .place .ensures)) ∙ ap registerIn (m .match .keys3)) (r .write-rcr .ensures .0 (start e .args .memory .now))
+
 returns-3 : tie.Need-returns-3
 unfolding registerIn registerAt
 returns-3 c =
     let r = c .before .before .before .before .before .before in
     let m = r .before .before .before .before in
-    let d = m .before .before in
+    let d = m .before in
     let e = else-at d in
-    there e RCR (sym (ap registerIn (d .before .place .ensures)) ∙ ap registerIn (m .match .keys1)) (r .write-rcr .ensures .0 (start e .args .memory .now))
-
-returns-4 : tie.Need-returns-4
-unfolding registerIn registerAt
-returns-4 c =
-    let r = c .before .before .before .before .before .before in
-    let m = r .before .before .before .before in
-    let d = m .before .before in
-    let e = else-at d in
-    there e COMMAND (sym (ap registerIn (d .before .place .ensures)) ∙ ap registerIn (m .match .keys2)) (r .write-command .ensures (start e .args .memory .now))
+    there e COMMAND (sym (ap registerIn (d .place .ensures)) ∙ ap registerIn (m .match .keys4)) (r .write-command .ensures (start e .args .memory .now))
 
 write-register-requires : tie.Need-write-register-requires
 write-register-requires c κs =
     let m = c .before .before in
-    let f = m .before in
-    let d = f .before in
-    let e = else-at d in
+    let n = m .match .rest in
+    let e = else-at (m .before) in
     let s = start e in
     let o = s .pre .0 .sound in
-    (o .kept, o .queues, placed e, d .before .place .ensures, eqb-false (d .before .place .result / 2) 10 (sym (d .is-data .ensures) ∙ f .if2 .left), m .match .rest .0 .1, m .match .rest .1, (paged, s .args .sets .now, o .sets))
+    (o .kept, o .queues, placed e, m .before .place .ensures, (λ d. omega (arith, d, n .0 .0 .0 .1, n .0 .0 .1)), n .0 .1, n .1, (paged, s .args .sets .now, o .sets))
 
+returns-4 : tie.Need-returns-4
+returns-4 c =
+    let r = c .before .before .before .before in
+    let m = r .before .before .before in
+    let s = start (else-at (m .before)) in
+    r .write-register .ensures .0 paged (s .args .sets .now) (s .args .memory .now) (s .pre .0 .sound .sets)
+
+-- data
 returns-5 : tie.Need-returns-5
 returns-5 c =
     let r = c .before .before .before .before in
-    let m = r .before .before .before in
-    let s = start (else-at (m .before .before)) in
-    r .write-register .ensures .0 paged (s .args .sets .now) (s .args .memory .now) (s .pre .0 .sound .sets)
+    let m = r .before .before .before .before .before .before in
+    let d = m .before in
+    let e = else-at d in
+    let s = start e in
+    let a = d .place .result in
+    let here : a / 2 ≡ 10 = ⊎-elim (λ w. omega (arith, w .keys1)) (λ w. omega (arith, w .keys2)) (m .match .came) in
+    there e DATA (sym (ap registerIn (d .place .ensures)) ∙ at-data a here)
+    (makes-as (writes-data (s .args .width) (s .args .offset) (s .args .value) _) (rw (r .before .is-wide .ensures) at (r .write-data .ensures)))
 
 pub write-spec : {M : Type 1} → statement M
 write-spec =
@@ -99,25 +101,24 @@ write-spec =
     (λ c κs. search needs)
     returns
     (λ c κs. search needs)
-    (λ c κs. search needs)
-    (λ c κs. search needs)
-    (λ c κs. start (else-at (c .before .before .before .before .before .before)) .pre)
-    (λ c. search needs)
+    (λ c κs. start (else-at (c .before .before .before .before)) .pre .0 .sound)
     (λ c. search needs)
     (λ c. search needs)
     (λ c. search needs)
     returns-2
-    (λ c κs. start (else-at (c .before .before .before .before .before)) .pre .0 .sound)
-    (λ c κs. let e = else-at (c .before .before .before .before .before) in (start e .pre .0, placed e))
-    write-register-requires
+    (λ c κs. let e = else-at (c .before .before .before .before) in (start e .pre .0, placed e))
     (λ c. search needs)
     (λ c. search needs)
     (λ c. search needs)
     returns-3
-    (λ c. search needs)
+    write-register-requires
     (λ c. search needs)
     (λ c. search needs)
     returns-4
+    (λ c κs. search needs)
+    (λ c κs. start (else-at (c .before .before .before .before .before .before)) .pre)
+    (λ c. search needs)
+    (λ c. search needs)
     (λ c. search needs)
     (λ c. search needs)
     returns-5)
