@@ -13,7 +13,7 @@ use Rattle.rules.specs.Lists.{firstEmpty, some?}
 use Rattle.rules.specs.Chip.{Chip, size, pagesAt, free}
 use Rattle.rules.specs.Fields.{setRx, inPool}
 use Rattle.rules.specs.Answers.{Effect, refuse}
-use Rattle.rules.specs.Mmu.{perform, allocate, reset, removeAndRelease, resetTx, lowestNumber, due, settle, freed, giveBack}
+use Rattle.rules.specs.Mmu.{perform, allocate, reset, removeAndRelease, resetTx, lowestNumber, grant, due, settle, freed, giveBack}
 use Rattle.rules.specs.Data.{against, ifOpen}
 use Rattle.rules.specs.Crc.{crcBit, crcBits, crcFrom, crc, hash}
 use Rattle.rules.specs.Tests.{ascends, allBelow, apart, noneOwned, pagesGood, laidGood, queueGood, queuesGood, numbersGood, requestGood, formed, fit}
@@ -52,6 +52,10 @@ pub result-has : (c : Chip) (n : ℕ) → n ≤ length (free c) → firstEmpty (
     → pagesAt (perform (allocate n) c .chip) (perform (allocate n) c .chip .regs .numbers .result) ≡ take n (free c)
 unfolding perform
 result-has c n h k = rw (le-leb n (length (free c)) h) (getD-set-same (c .pool .pages) (firstEmpty (c .pool .pages)) (take n (free c)) [] k)
+
+-- A grant clears nothing, whatever the layout: what stands in a page or in a strip stays.
+pub grant-clears-nothing : (n : ℕ) (c : Chip) → grant n c .memory ≡ c .memory
+grant-clears-nothing n c = refl
 
 -- An allocation that waits for as many pages as are free is granted: its packet is the lowest unallocated number and has the lowest of them, all that it waited for; and nothing waits any more.
 -- c is the chip once pages are free, d the chip after it.
