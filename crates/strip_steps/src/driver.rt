@@ -18,7 +18,7 @@ ghost use Rattle.state.specs.Meaning.{widthOf};
 ghost use Rattle.state.specs.View.{viewOf};
 ghost use Rattle.state.specs.Promise.{ReadyOf, MakesOf};
 
-// A read: of data, of ECR, or of another register. Data's places are as in `accesses::read`.
+// A read: of ECR, of another register, or behind the match of data, which has two places.
 pub fn read(
     words: &mut [u16],
     counts: &[u32],
@@ -43,7 +43,7 @@ pub fn read(
     read_data(words, counts, queues, memory, accesses::is_wide(width))
 }
 
-// A write: to data, to one of the two registers that may free or grant pages, or to another.
+// A write: to one of the two registers that may free or grant pages, to another, or behind the match to data.
 pub fn write(
     words: &mut [u16],
     counts: &mut [u32],
