@@ -46,8 +46,7 @@ runs-steps (i ∷ is) m b d (x ∷ xs) (y ∷ ys) g h a r s =
     let v = serves-right strips i d y h (s .0) in
     let k = written 24 i (chipOf paged b) m in
     let t = subst (λ (z : Reply). SameReply i (chipOf paged b) m z (step i (chipOf strips d) .reply)) (sym (u .reply)) (a .0 .reply) in
-    let n : Alike 24 is k (chipOf paged (x .board)) (chipOf strips (y .board)) = subst (λ (c : Chip). Alike 24 is k c (chipOf strips (y .board))) (sym (u .chip)) (subst (Alike 24 is k (step i (chipOf paged b) .chip)) (sym (v .chip)) (a .1)) in
-    (
+    let n : Alike 24 is k (chipOf paged (x .board)) (chipOf strips (y .board)) = subst (λ (c : Chip). Alike 24 is k c (chipOf strips (y .board))) (sym (u .chip)) (subst (Alike 24 is k (step i (chipOf paged b) .chip)) (sym (v .chip)) (a .1)) in (
       record {
         reply = subst (SameReply i (chipOf paged b) m (replyTo x)) (sym (v .reply)) t;
         output = v .output ∙ a .0 .output ∙ sym (u .output);
