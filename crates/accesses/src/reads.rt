@@ -54,7 +54,7 @@ pub fn read_ecr(words: &mut [u16], queues: &[u8], width: Width, offset: u8) -> A
 }
 
 // A read of the register at a place that is not data's or ECR's: it looks at no packet's pages, and changes nothing. Neighbouring places are dealt out to two arms with
-// one body, for the compiler alone: a run of places in one arm is tested once more behind its table, by up to 8 instructions.
+// one body, for the compiler alone: a run of places in one arm is tested once more behind its table, by up to 8 instructions. A refusal is returned at once for it too: see `read`.
 pub fn read_register(words: &[u16], queues: &[u8], at: usize, width: Width, offset: u8) -> Answer
     requires { ⌜ Kept (now words) × QueuesIn (figures (now words)) (now queues) × Placed width offset × (at ≡ placeOf (now words) offset) × (at / 2 ≡ 10 → ⊥) × (at ≡ 3 → ⊥) × ((l : Layout) × (s : List ℕ) × PagesIn l (figures (now words)) s) ⌝ }
     ensures { λ a. ⌜ ((l : Layout) (s mem : List ℕ) → PagesIn l (figures (now (words .entry))) s → MakesOf l (rules.access (rules.read (widthOf width) offset) (viewOf l (now (words .entry)) s (now (queues .entry)) mem)) a (now (words .entry)) s (now (queues .entry)) mem) ⌝ }
@@ -66,8 +66,8 @@ pub fn read_register(words: &[u16], queues: &[u8], at: usize, width: Width, offs
         // the bank, at offset E of every bank
         7 | 15 | 23 | 31 | 39 | 47 | 55 | 63 => gives(width, offset, words[BANK]),
         // not modelled: bank 0, C; bank 1, 0, 2 and A; bank 3, 8, A and C; bank 4
-        6 | 8 | 13 | 28 | 30 | 32 | 34 | 36 | 38 => Answer::NotModelled,
-        9 | 29 | 33 | 35 | 37 => Answer::NotModelled,
+        6 | 8 | 13 | 28 | 30 | 32 | 34 | 36 | 38 => return Answer::NotModelled,
+        9 | 29 | 33 | 35 | 37 => return Answer::NotModelled,
         TCR | RCR | STATION | STATION_2 | CONTROL | COMMAND | POINTER | TABLE | TABLE_2 => {
             gives(width, offset, words[at])
         }
@@ -82,6 +82,7 @@ pub fn read_register(words: &[u16], queues: &[u8], at: usize, width: Width, offs
 }
 
 // A read: of data, of ECR, or of another register. Each of data's places has an arm of its own, for the compiler alone: this table and that of `read_register` are one to it then.
+// So is an answer first put by and then returned: returned straight from the call, its number and its value are packed into one number and taken apart again, by up to 17 instructions.
 pub fn read(
     words: &mut [u16],
     sets: &[u32],
@@ -100,8 +101,15 @@ pub fn read(
     match at {
         DATA => {}
         DATA_1 => {}
-        ECR => return read_ecr(words, queues, width, offset),
-        _ => return read_register(words, queues, at, width, offset),
+        ECR => {
+            let answer = read_ecr(words, queues, width, offset);
+            return answer;
+        }
+        _ => {
+            let answer = read_register(words, queues, at, width, offset);
+            return answer;
+        }
     }
-    data::read_data(words, sets, queues, memory, is_wide(width))
+    let answer = data::read_data(words, sets, queues, memory, is_wide(width));
+    answer
 }

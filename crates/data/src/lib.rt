@@ -23,7 +23,7 @@ enum Gate {
     Refused(Answer),
 }
 
-// A data read on a chip that is well formed.
+// A data read on a chip that is well formed. The byte's answer is made here, for the compiler alone: see `accesses::read`.
 pub fn read_data(
     words: &mut [u16],
     sets: &[u32],
@@ -38,11 +38,10 @@ pub fn read_data(
     match gate {
         Gate::Refused(answer) => answer,
         Gate::Open(i, rest) => {
-            if wide {
-                reads::read_word(words, memory, i, rest)
-            } else {
-                reads::read_byte(words, memory, i, rest)
+            if !wide {
+                return Answer::Done(reads::read_byte(words, memory, i, rest));
             }
+            reads::read_word(words, memory, i, rest)
         }
     }
 }

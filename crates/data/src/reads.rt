@@ -6,6 +6,7 @@ use state::Answer;
 ghost use mathlib.Core.Path.{_≡_};
 ghost use Prim.Native.Nat.{_%_};
 ghost use lib.ListN.{length};
+ghost use Rattle.state.specs.declared.Answer.the-variants as Answer;
 ghost use Rattle.data.specs.Access.{Room, Reads};
 
 // A word whose second byte lies in the next page.
@@ -34,11 +35,12 @@ pub fn read_word(words: &mut [u16], memory: &[u8], i: usize, rest: u32) -> Answe
     Answer::Done(bits::word(memory[i], memory[i + 1]))
 }
 
-pub fn read_byte(words: &mut [u16], memory: &[u8], i: usize, rest: u32) -> Answer
+// A byte behind the gate is never refused: its value alone.
+pub fn read_byte(words: &mut [u16], memory: &[u8], i: usize, rest: u32) -> u16
     requires { ⌜ Room (now words) (now memory) i rest ⌝ }
-    ensures reads { λ a. ⌜ Reads 1 i rest (now (words .entry)) (now (memory .entry)) a (now (words .exit)) ⌝ }
+    ensures reads { λ v. ⌜ Reads 1 i rest (now (words .entry)) (now (memory .entry)) (Answer.Done v) (now (words .exit)) ⌝ }
     ensures long { λ _. ⌜ length (now (words .exit)) ≡ length (now (words .entry)) ⌝ }
 {
     advance(words, 1);
-    Answer::Done(bits::word(memory[i], 0))
+    bits::word(memory[i], 0)
 }

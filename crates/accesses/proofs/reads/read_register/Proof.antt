@@ -80,52 +80,52 @@ shared-slice-read-gives-4 c =
     let k = key-below 32 (1 ∷ 5 ∷ 11 ∷ 17 ∷ 25 ∷ 27 ∷ []) _ refl (m .match .keys8) in
     omega (arith)
 
--- MIR, and what is found for each read
+-- not modelled
 returns : tie.Need-returns
 unfolding registerIn registerAt
 returns c =
-    let m = c .before .before in
-    let s = m .before .before .before in
-    λ l n mem h. answered (c .gives .ensures) (reached s 4 (m .match .keys1) (λ i k x y. reads-mir (lanes s) _ _ _ (sound s y) x) l n mem h)
+    let s = c .before .before .before in
+    let none = reads-absent (lanes s) (words s) (s .pre .0) in
+    plain s _ refl (by-key (λ (k : ℕ). Does (readRegister (registerIn k) (lanes s)) (words s) NotModelled (words s)) (6 ∷ 8 ∷ 13 ∷ 28 ∷ 30 ∷ 32 ∷ 34 ∷ 36 ∷ 38 ∷ []) _ (c .match .keys5) none none none none none none none none none)
 
 returns-2 : tie.Need-returns-2
 unfolding registerIn registerAt
 returns-2 c =
-    let m = c .before .before in
-    let s = m .before .before .before in
-    λ l n mem h. answered (c .gives2 .ensures) (reached s 18 (m .match .keys2) (λ i k x y. reads-heads (lanes s) _ _ _ (sound s y) _ (c .before .heads .ensures) x) l n mem h)
+    let s = c .before .before .before in
+    let none = reads-absent (lanes s) (words s) (s .pre .0) in
+    plain s _ refl (by-key (λ (k : ℕ). Does (readRegister (registerIn k) (lanes s)) (words s) NotModelled (words s)) (9 ∷ 29 ∷ 33 ∷ 35 ∷ 37 ∷ []) _ (c .match .keys6) none none none none none)
 
+-- MIR, and what is found for each read
 returns-3 : tie.Need-returns-3
 unfolding registerIn registerAt
 returns-3 c =
     let m = c .before .before in
     let s = m .before .before .before in
-    λ l n mem h. answered (c .gives3 .ensures) (reached s 22 (m .match .keys3) (λ i k x y. reads-interrupt (lanes s) _ _ _ (sound s y) _ (c .before .interrupt .ensures) x) l n mem h)
+    λ l n mem h. answered (c .gives .ensures) (reached s 4 (m .match .keys1) (λ i k x y. reads-mir (lanes s) _ _ _ (sound s y) x) l n mem h)
 
--- the bank
 returns-4 : tie.Need-returns-4
 unfolding registerIn registerAt
 returns-4 c =
     let m = c .before .before in
     let s = m .before .before .before in
-    let bank = reads-bank (lanes s) (words s) (s .pre .0) in
-    let shown = by-key (λ (k : ℕ). Shows (registerIn k) (lanes s) (words s) (word (words s) 7)) (7 ∷ 15 ∷ 23 ∷ 31 ∷ 39 ∷ 47 ∷ 55 ∷ 63 ∷ []) _ (m .match .keys4) bank bank bank bank bank bank bank bank in
-    λ l n mem h. answered (c .gives4 .ensures) (plain s _ refl shown l n mem h)
+    λ l n mem h. answered (c .gives2 .ensures) (reached s 18 (m .match .keys2) (λ i k x y. reads-heads (lanes s) _ _ _ (sound s y) _ (c .before .heads .ensures) x) l n mem h)
 
--- not modelled
 returns-5 : tie.Need-returns-5
 unfolding registerIn registerAt
 returns-5 c =
-    let s = c .before .before .before in
-    let none = reads-absent (lanes s) (words s) (s .pre .0) in
-    plain s _ refl (by-key (λ (k : ℕ). Does (readRegister (registerIn k) (lanes s)) (words s) NotModelled (words s)) (6 ∷ 8 ∷ 13 ∷ 28 ∷ 30 ∷ 32 ∷ 34 ∷ 36 ∷ 38 ∷ []) _ (c .match .keys5) none none none none none none none none none)
+    let m = c .before .before in
+    let s = m .before .before .before in
+    λ l n mem h. answered (c .gives3 .ensures) (reached s 22 (m .match .keys3) (λ i k x y. reads-interrupt (lanes s) _ _ _ (sound s y) _ (c .before .interrupt .ensures) x) l n mem h)
 
+-- the bank
 returns-6 : tie.Need-returns-6
 unfolding registerIn registerAt
 returns-6 c =
-    let s = c .before .before .before in
-    let none = reads-absent (lanes s) (words s) (s .pre .0) in
-    plain s _ refl (by-key (λ (k : ℕ). Does (readRegister (registerIn k) (lanes s)) (words s) NotModelled (words s)) (9 ∷ 29 ∷ 33 ∷ 35 ∷ 37 ∷ []) _ (c .match .keys6) none none none none none)
+    let m = c .before .before in
+    let s = m .before .before .before in
+    let bank = reads-bank (lanes s) (words s) (s .pre .0) in
+    let shown = by-key (λ (k : ℕ). Shows (registerIn k) (lanes s) (words s) (word (words s) 7)) (7 ∷ 15 ∷ 23 ∷ 31 ∷ 39 ∷ 47 ∷ 55 ∷ 63 ∷ []) _ (m .match .keys4) bank bank bank bank bank bank bank bank in
+    λ l n mem h. answered (c .gives4 .ensures) (plain s _ refl shown l n mem h)
 
 -- the words
 returns-7 : tie.Need-returns-7
@@ -173,6 +173,8 @@ read-register-spec =
     (λ c κs. search needs)
     (λ c. search needs)
     (λ c κs. search needs)
+    returns
+    returns-2
     (λ c. search needs)
     shared-slice-read-gives-3
     (λ c κs. search needs)
@@ -180,8 +182,6 @@ read-register-spec =
     shared-slice-read-gives-4
     (λ c κs. search needs)
     (λ c κs. search needs)
-    returns
-    returns-2
     returns-3
     returns-4
     returns-5
