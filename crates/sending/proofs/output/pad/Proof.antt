@@ -10,11 +10,11 @@ use Rattle.sending.proofs.output.pad.Statement.{statement}
 use Rattle.sending.proofs.output.pad.Tie as tie
 
 abbrev Inv-loop : tie.InvT-loop
-Inv-loop out₀ from i₀ out i =
-    (60 ≤ length out₀) × (length out ≡ length out₀) × (sets out₀ from (replicate (60 - from) 0) ≡ sets out i (replicate (60 - i) 0))
+Inv-loop out₀ from least i₀ out i =
+    (least ≤ length out₀) × (length out ≡ length out₀) × (sets out₀ from (replicate (least - from) 0) ≡ sets out i (replicate (least - i) 0))
 
 abbrev μ-loop : tie.MeasureT-loop
-μ-loop out₀ from i₀ out i = 60 - i
+μ-loop out₀ from least i₀ out i = least - i
 
 loop-holds : tie.Need-loop-holds Inv-loop μ-loop
 loop-holds c = (c .pre, refl, refl)
@@ -23,12 +23,12 @@ loop-again : tie.Need-loop-again Inv-loop μ-loop
 loop-again c =
     let b = c .before in
     let v = b .loop .inv in
-    (v .0, simp length-set (v .1), v .2 ∙ zeros-on (b .loop .out) (b .loop .i) 60 (c .loop-test .taken))
+    (v .0, simp length-set (v .1), v .2 ∙ zeros-on (b .loop .out) (b .loop .i) _ (c .loop-test .taken))
 
 returns : tie.Need-returns Inv-loop μ-loop
 returns c =
     let b = c .before in
-    let e : 60 - b .loop .i ≡ 0 = omega (arith, c .loop-test .left) in
+    let e : b .before .args .least - b .loop .i ≡ 0 = omega (arith, c .loop-test .left) in
     sym (b .loop .inv .2 ∙ rw e)
 
 pub pad-spec : {M : Type 1} → statement M
