@@ -3,13 +3,13 @@ use mathlib.Core.Path.{_≡_, sym, _∙_}
 use Prim.Native.Nat.{_-_, _^_, _<_, _≤_}
 use native.Mathlib.Omega.{arith}
 use borrow.Author.Needs.{needs}
-use Rattle.crc.specs.Mirror.{mirror}
+use Rattle.rules.specs.Crc.{mirror}
 use Rattle.crc_runs.proofs.Turn.{turning, turn-end, turn-on, turn-lt, turn-fits}
-use Rattle.crc_runs.proofs.published.Statement.{statement}
-use Rattle.crc_runs.proofs.published.Tie as tie
+use Rattle.crc_runs.proofs.turned.Statement.{statement}
+use Rattle.crc_runs.proofs.turned.Tie as tie
 
 abbrev Inv-loop : tie.InvT-loop
-Inv-loop r left₀ m₀ k₀ left m k = (k ≤ 32) × (m < 2 ^ k) × (turning (32 - k) left m ≡ mirror 32 (2 ^ 32 - 1 - r))
+Inv-loop r left₀ m₀ k₀ left m k = (k ≤ 32) × (m < 2 ^ k) × (turning (32 - k) left m ≡ mirror 32 r)
 
 abbrev μ-loop : tie.MeasureT-loop
 μ-loop r left₀ m₀ k₀ left m k = 32 - k
@@ -31,7 +31,7 @@ returns c =
     let e : a .loop .k ≡ 32 = search needs in
     sym (turn-end (a .loop .left) (a .loop .m)) ∙ rw e at (a .loop .inv .2)
 
-pub published-spec : {M : Type 1} → statement M
-published-spec =
+pub turned-spec : {M : Type 1} → statement M
+turned-spec =
     tie.close
-    (tie.spec Inv-loop μ-loop (λ c. search needs) (λ c. search needs) mul-m add-m (λ c. search needs) (λ c. search needs) loop-again returns)
+    (tie.spec Inv-loop μ-loop (λ c. search needs) mul-m add-m (λ c. search needs) (λ c. search needs) loop-again returns)
