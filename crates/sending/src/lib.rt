@@ -15,10 +15,7 @@ pub use event::is_good;
 pub use event::is_within;
 pub use finish::finished;
 pub use output::LEAST_COUNT;
-pub use output::OUTPUT_BYTES;
-pub use output::end_out;
 pub use output::is_past;
-pub use output::send_length;
 
 // How a send ended, as its input says; `sendOf` gives the rules' record of it.
 pub struct Send {

@@ -1,6 +1,6 @@
 // A send finishes: the TX head is sent. What looks at no pages is called from `sending`.
+use on_wire::OUTPUT_BYTES;
 use sending::LEAST_COUNT;
-use sending::OUTPUT_BYTES;
 use sending::Send;
 use sending::after_send;
 use sending::is_full;

@@ -1,7 +1,7 @@
 -- The data goes out first, and what ends it behind it.
 use borrow.Author.Needs.{needs}
 use Rattle.sets.specs.Views.{pagesOf}
-use Rattle.sending.proofs.Padding.{puts-data}
+use Rattle.on_wire.specs.Data.{puts-data}
 use Rattle.sending.proofs.output.put_out.Statement.{statement}
 use Rattle.sending.proofs.output.put_out.Tie as tie
 

@@ -1,6 +1,6 @@
 -- The data goes out first, and what ends it behind it.
 use borrow.Author.Needs.{needs}
-use Rattle.sending.proofs.Padding.{puts-data}
+use Rattle.on_wire.specs.Data.{puts-data}
 use Rattle.strip_bytes.specs.Strip.{stripOf}
 use Rattle.strip_output.proofs.output.put_out.Statement.{statement}
 use Rattle.strip_output.proofs.output.put_out.Tie as tie

@@ -6,10 +6,10 @@ use native.Mathlib.Omega.{arith}
 use borrow.Author.Tests.{not-true, not-false}
 use lib.ListN.{take}
 use Rattle.rules.specs.Send.{padded}
-use Rattle.sending.specs.Sends.{PutsOut}
-use Rattle.sending.proofs.Padding.{pads-nothing, pads}
-use Rattle.sending.proofs.output.pad_out.Statement.{statement}
-use Rattle.sending.proofs.output.pad_out.Tie as tie
+use Rattle.on_wire.specs.PutsOut.{PutsOut}
+use Rattle.on_wire.proofs.Padding.{pads-nothing, pads}
+use Rattle.on_wire.proofs.pad_out.Statement.{statement}
+use Rattle.on_wire.proofs.pad_out.Tie as tie
 
 returns : tie.Need-returns
 returns c =

@@ -4,8 +4,8 @@ use mathlib.Core.Path.{_≡_, refl}
 use Prim.Native.Nat.{suc, _+_}
 use native.Mathlib.Omega.{arith}
 use lib.ListN.{length-set}
-use Rattle.sending.proofs.output.put_four.Statement.{statement}
-use Rattle.sending.proofs.output.put_four.Tie as tie
+use Rattle.on_wire.proofs.put_four.Statement.{statement}
+use Rattle.on_wire.proofs.put_four.Tie as tie
 
 returns : tie.Need-returns
 returns c =

@@ -4,8 +4,8 @@ use mathlib.Core.Path.{_≡_, refl, ap₂, _∙_}
 use mathlib.Core.Bool.{Bool, true, false, not, _&&_, _||_}
 use Rattle.rules.specs.Bits.{bit}
 use Rattle.rules.specs.Send.{appends}
-use Rattle.sending.proofs.output.appends.Statement.{statement}
-use Rattle.sending.proofs.output.appends.Tie as tie
+use Rattle.on_wire.proofs.appends.Statement.{statement}
+use Rattle.on_wire.proofs.appends.Tie as tie
 
 unless : (nocrc asked : Bool) → not nocrc || asked ≡ not (nocrc && not asked)
 unless true true = refl

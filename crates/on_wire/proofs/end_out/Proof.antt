@@ -4,9 +4,9 @@ use mathlib.Core.Path.{_≡_, refl, sym}
 use native.Mathlib.Omega.{arith}
 use borrow.Author.Tests.{not-true, not-false}
 use lib.Seq.{length-take-le}
-use Rattle.sending.proofs.Padding.{ends-bare, ends-fcs}
-use Rattle.sending.proofs.output.end_out.Statement.{statement}
-use Rattle.sending.proofs.output.end_out.Tie as tie
+use Rattle.on_wire.proofs.Padding.{ends-bare, ends-fcs}
+use Rattle.on_wire.proofs.end_out.Statement.{statement}
+use Rattle.on_wire.proofs.end_out.Tie as tie
 
 returns : tie.Need-returns
 returns c =

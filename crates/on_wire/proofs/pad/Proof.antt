@@ -5,9 +5,9 @@ use Prim.Native.Nat.{_-_, _≤_}
 use native.Mathlib.Omega.{arith}
 use lib.ListN.{length, replicate, length-set}
 use lib.Seq.{sets}
-use Rattle.sending.proofs.Loops.{zeros-on}
-use Rattle.sending.proofs.output.pad.Statement.{statement}
-use Rattle.sending.proofs.output.pad.Tie as tie
+use Rattle.on_wire.proofs.Padding.{zeros-on}
+use Rattle.on_wire.proofs.pad.Statement.{statement}
+use Rattle.on_wire.proofs.pad.Tie as tie
 
 abbrev Inv-loop : tie.InvT-loop
 Inv-loop out₀ from least i₀ out i =

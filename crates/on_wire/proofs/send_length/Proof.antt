@@ -2,8 +2,8 @@
 use borrow.Author.Needs.{needs}
 use mathlib.Core.Path.{sym, _∙_}
 use Rattle.rules.specs.Send.{sendLength}
-use Rattle.sending.proofs.output.send_length.Statement.{statement}
-use Rattle.sending.proofs.output.send_length.Tie as tie
+use Rattle.on_wire.proofs.send_length.Statement.{statement}
+use Rattle.on_wire.proofs.send_length.Tie as tie
 
 returns : tie.Need-returns
 unfolding sendLength

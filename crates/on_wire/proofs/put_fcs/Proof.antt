@@ -6,8 +6,8 @@ use Prim.Native.Nat.{ℕ, _/_, _%_, _^_}
 use native.Mathlib.Omega.{arith}
 use lib.Seq.{sets}
 use Rattle.rules.specs.Crc.{fourBytes}
-use Rattle.sending.proofs.output.put_fcs.Statement.{statement}
-use Rattle.sending.proofs.output.put_fcs.Tie as tie
+use Rattle.on_wire.proofs.put_fcs.Statement.{statement}
+use Rattle.on_wire.proofs.put_fcs.Tie as tie
 
 returns : tie.Need-returns
 unfolding fourBytes
