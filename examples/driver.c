@@ -87,6 +87,20 @@ static void outw(unsigned b, unsigned offset, unsigned value)
 	done(4, offset, value & 0xff, value >> 8);
 }
 
+/* the FCS of a frame, behind its bytes: the CRC-32 of IEEE 802.3, lowest bit and byte first */
+static void append_fcs(unsigned char *wire, size_t length)
+{
+	unsigned long crc = 0xffffffff;
+	size_t at;
+	int bit;
+
+	for (at = 0; at < length; at++)
+		for (crc ^= wire[at], bit = 0; bit < 8; bit++)
+			crc = crc & 1 ? crc >> 1 ^ 0xedb88320 : crc >> 1;
+	for (at = 0; at < 4; at++)
+		wire[length + at] = ~crc >> 8 * at & 0xff;
+}
+
 /* a frame with its FCS arrives; what became of it, 0 where it is stored */
 static unsigned frame(const unsigned char *wire, size_t length)
 {
@@ -162,6 +176,7 @@ static void receive_one(void)
 	memcpy(wire, station, 6);
 	for (at = 14; at < 60; at++)
 		wire[at] = at;
+	append_fcs(wire, 60);
 	printf("frame arrives    value %u\n", frame(wire, sizeof wire));
 	outw(2, 0x6, 0xe000); /* RCV, AUTO INCR, READ */
 	status = inw(2, 0x8);

@@ -6,6 +6,7 @@ usage: driver.py BENCH        (what tools/build bench prints)
 """
 import subprocess
 import sys
+import zlib
 
 OF_COUNT = (13, 18, 19)  # refusals of a send whose value is the byte count in its packet; others have value 0
 
@@ -24,7 +25,7 @@ class Bench:
         try:
             self.program.stdin.write(bytes(values).ljust(8, b"\0"))
             self.program.stdin.flush()
-            _number, answer, value = self.program.stdout.readline().split()
+            _number, answer, value, *self.watched = self.program.stdout.readline().split()  # by `watch` there is more
             return int(answer), int(value, 16)
         except (BrokenPipeError, ValueError):
             raise SystemExit("driver.py: no line for a record: is the program given the bench?")
@@ -58,15 +59,15 @@ class Bench:
         self.select(bank)
         self.done(4, offset, value & 0xFF, value >> 8)
 
-    def frame(self, wire, bad_crc=False, alignment=False):
-        """A frame with its FCS arrives; gives what became of it, 0 where it is stored."""
+    def frame(self, wire, alignment=False):
+        """A frame with its FCS arrives; gives what became of it, 0 where it is stored. The chip finds a bad CRC itself."""
         for at in range(0, len(wire), 6):
             part = wire[at : at + 6]
             self.done(5, len(part), *part)
-        return self.done(6, bad_crc + 2 * alignment)
+        return self.done(6, 2 * alignment)
 
     def send_finishes(self, outcome=0, collisions=0, deferral=0):
-        """The head of TX is sent; gives how many bytes were put out."""
+        """The head of TX is sent; gives how many bytes were put out, FCS included."""
         return self.done(7, outcome, collisions, deferral)
 
     def close(self):
@@ -79,6 +80,11 @@ COMMAND, PACKET, RESULT, HEADS, POINTER, DATA, STATUS = (2, 0), (2, 2), (2, 3), 
 ALLOC_INT = 0x08
 STATION = bytes([0x02, 0x00, 0x00, 0x12, 0x34, 0x56])
 HEADER = bytes([0xFF] * 6) + STATION + bytes([0x08, 0x00])  # to everybody
+
+
+def with_fcs(frame):
+    """A frame as it is on the wire, its FCS behind it."""
+    return frame + zlib.crc32(frame).to_bytes(4, "little")
 
 
 def load(chip, number, data):
@@ -148,13 +154,13 @@ def main(path):
     chip.write_word(*RCR, 0x0100)  # RXEN
     print(f"after reset      free pages {chip.read_word(*MIR) >> 8}")
 
-    # allocate one page, load a packet of 20 bytes, enqueue it; it is put out padded to 60
+    # allocate one page, load a packet of 20 bytes, enqueue it; it is put out padded to 60, with its FCS
     chip.write(*COMMAND, 0x20)
     load(chip, chip.read(*RESULT), HEADER + b"hello!")
     finish(chip)
 
     # a frame arrives for this station
-    wire = STATION + bytes([2, 0, 0, 0, 0, 1, 0x08, 0x00]) + bytes(range(46)) + bytes(4)
+    wire = with_fcs(STATION + bytes([2, 0, 0, 0, 0, 1, 0x08, 0x00]) + bytes(range(46)))
     print(f"frame arrives    value {chip.frame(wire)}, status {chip.read(*STATUS):02x}h")
     print(f"received         packet {chip.read_word(*HEADS) >> 8}, free pages {chip.read_word(*MIR) >> 8}")
     chip.write_word(*POINTER, 0xE000)  # RCV, AUTO INCR, READ
@@ -170,7 +176,7 @@ def main(path):
 
     # six frames of 1,000 bytes take all pages, and one of 1,514 is to be sent: it needs those of two of them
     for _ in range(6):
-        chip.frame(STATION + bytes(994))
+        chip.frame(with_fcs(STATION + bytes(990)))
     print(f"six frames       free pages {chip.read_word(*MIR) >> 8}, status {chip.read(*STATUS):02x}h")
     send_when_granted(chip, HEADER + bytes(1500))
     chip.close()

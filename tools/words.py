@@ -16,7 +16,7 @@ REFUSALS = {
     12: "TXENA clear or TX FIFO empty",
     13: "byte count odd",
     14: "completion FIFO full",
-    15: "output buffer under 2,048 bytes",
+    15: "output buffer under 2,052 bytes",
     16: "memory not 6,144 bytes or state not well formed",
     17: "record cut short or of unknown kind",
     18: "byte count under 12",
@@ -52,7 +52,7 @@ def numbers(unanswered):
     return Register("packet number, allocation result", "packet number", "allocation result", parts, HIGH)
 
 
-TCR = bits({0: "TXENA", 7: "PAD_EN", 10: "MON_CSN", 12: "STP_SQET", 15: "FDSE"})
+TCR = bits({0: "TXENA", 7: "PAD_EN", 8: "NOCRC", 10: "MON_CSN", 12: "STP_SQET", 15: "FDSE"})
 EPHSR = bits({0: "TX_SUC", 1: "SNGLCOL", 2: "MULCOL", 3: "LTX_MULT", 4: "16COL", 5: "SQET", 6: "LTX_BRD"})
 EPHSR += bits({9: "LATCOL", 10: "LOST_CARR", 12: "CTR_ROL", 15: "TXUNRN"})
 RCR = bits({0: "RX_ABORT", 1: "PRMS", 2: "ALMUL", 8: "RXEN", 9: "STRIP_CRC", 15: "SOFT_RST"})
@@ -115,14 +115,14 @@ RECEIVED += bits({10: "TOOSHORT", 11: "TOOLNG", 12: "ODDFRM", 13: "BADCRC", 14: 
 IN_RX_HEAD = {**IN_PACKET, 0: whole("status", RECEIVED)}
 NO_NAME = Register("", "", "")
 
-# a frame arrives: its flags, and the answer's value
-FLAGS = {"bad-crc": 1, "alignment": 2}
+# a frame arrives: its flag, and the answer's value
+FLAGS = {"alignment": 2}
 ARRIVALS = {
     0: "stored",
     1: "RXEN clear",
     2: "address not accepted",
     3: "over 1,532 bytes, RX_ABORT set",
-    4: "flagged or under 64 bytes with RCV_BAD clear",
+    4: "bad CRC, alignment error or under 64 bytes with RCV_BAD clear",
     5: "too few pages free, RX_ABORT and RX_OVRN set",
 }
 

@@ -35,7 +35,7 @@ says(0x1234, 2, 0x08)
 says(0x5678, 2, 0x08)
 says(0x6004, 2, 0x06)
 
-# a frame of 1,518 bytes, counting up from 0: n is even, so the count is 1,524, in six pages
+# a frame of 1,518 bytes, counting up from 0, with its FCS: n is even, so the count is 1,524, in six pages
 write_byte(0x0E, 0)
 says(0x1218, 2, 0x08)  # 18 pages free
 write_word(0x04, 0x0102)  # RXEN, all addresses

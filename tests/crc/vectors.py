@@ -3,8 +3,8 @@
 
 Run as tests/crc/vectors.py crates/crc_runs/stdin crates/crc_runs/stdout: both files must stay as they are stored.
 
-A line is: length, remainder (shifted left, not complemented), the published CRC-32, hash. zlib gives the published value; the remainder is
-its complement with the bits in the other order, and the hash the top six bits of that."""
+A line is: length, remainder (shifted left, not complemented), the frame check sequence, hash. The sequence is the published CRC-32, which zlib
+gives; the remainder is its complement with the bits in the other order, and the hash the top six bits of that."""
 import sys
 import zlib
 
@@ -45,6 +45,14 @@ def vectors():
     wrong = bytearray(frame(64, 2))
     wrong[20] ^= 0x10
     yield bytes(wrong)
+    # four bytes go in at a time: each count of bytes behind the last four, behind none, one and two of them
+    for length in range(2, 12):
+        yield bytes((0x35 + 83 * i) % 256 for i in range(length))
+    # a byte of two like nibbles at each place of four: every entry of the eight tables
+    yield from (bytes(place) + bytes([value]) + bytes(3 - place) for place in range(4) for value in range(0, 256, 17))
+    # long ones, of each count behind the last four
+    for length in (2048, 4097, 6146, 8191):
+        yield bytes((length + 11 * i + i * i // 3) % 256 for i in range(length))
 
 
 def main():

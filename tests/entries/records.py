@@ -66,12 +66,12 @@ def request(kind, offset, value=0):
 
 
 def frame(length, flags=0):
-    """The wire's first bytes arrive; flag 1 is bad CRC, flag 2 alignment."""
+    """The wire's first bytes arrive; flag 2 is alignment, and flag 1, which was bad CRC before W4, is ignored."""
     return request(6, flags, length)
 
 
 def send(outcome=0, collisions=0, deferral=0, lacking=0):
-    """The head of TX has been sent; the output buffer has 2,048 bytes less those lacking."""
+    """The head of TX has been sent; the output buffer has 2,052 bytes less those lacking."""
     return bytes([7, outcome, collisions, deferral, lacking, 0, 0, 0])
 
 

@@ -1,15 +1,19 @@
 #!/usr/bin/env python3
 """Writes crates/entry_runs/stdin and stdout: records in order and damaged ones, each with an access, a frame or a send, the answer that the papers give it, and
-the record after it. The memory and the wire are those that the cases before left: a send puts out to the wire, and a frame comes from it.
+the record after it. The memory and the wire are those that the cases before left: a send puts out to the wire, with its FCS, and a frame comes from it. FCSs are zlib's.
 
 usage: tests/entries/write.py      (in the repository's top folder)
 """
+import zlib
+
 from records import CONTROL, ECR, EPHSR, LATCHES, POINTER, RCR, RESERVED, STATION, Record, frame, line, request, send
 
 MIR, MIR_HIGH, HEADS, COMMAND, DATA = 0x08, 0x09, 0x04, 0x00, 0x08
 RXEN, ALL, STRIP, RX_ABORT = 0x0100, 0x0002, 0x0200, 0x0001  # of RCR
 KEEP_BAD, AUTO_RELEASE = 0x4000, 0x0800  # of control
-TXENA, PAD, STOP_ON_CARRIER = 0x0001, 0x0080, 0x0400  # of TCR
+TXENA, PAD, NOCRC, STOP_ON_CARRIER = 0x0001, 0x0080, 0x0100, 0x0400  # of TCR
+ODD_DATA, WITH_CRC = 0x2000, 0x1000  # of a packet's control byte, in its word
+FCS = 4  # bytes
 SENT, BROADCAST = 0x0001, 0x0040  # of EPHSR
 TX_EMPTY, OVERRUN = 4, 16  # of the latches
 cases, lines = [], []
@@ -119,79 +123,6 @@ def wrong_before():
     damaged("a word that holds nothing", three().word(15, 1))
 
 
-def waiting():
-    """Six pages are free, and an allocation waits for more (W1)."""
-    ask = dict(bank=2, waiting=8)
-    done("MIR while one waits", 1560, three(waiting=7), request(2, MIR))
-    after = Record([(0, [*range(6), 18, 19]), *SIX[1:]], rx=[1], tx=[2], bank=2, result=0)
-    done("granted by 80h: the number and the pages just freed, and the lowest others", 0, three(**ask), command(0x80), after)
-    idle = Record(SIX, rx=[0], packet=1, tx=[2], **ask)
-    after = Record([SIX[0], (1, [*range(6, 12), 18, 19]), SIX[2]], rx=[0], packet=1, tx=[2], bank=2, result=1)
-    done("granted by A0h", 0, idle, command(0xA0), after)
-    few = [(0, range(0, 8)), (1, range(8, 16)), (2, range(16, 18)), (3, range(18, 22))]
-    after = Record([few[0], few[1], few[3]], rx=[0, 1], packet=2, **ask)
-    done("A0h of too few: it waits on", 0, Record(few, rx=[0, 1], packet=2, **ask), command(0xA0), after)
-    refused("A0h refused", 6, three(packet=1, **ask), command(0xA0))
-    done("another that waits in its place", 0, three(**ask), command(0x26), three(bank=2, waiting=7))
-    after = Record([*SIX, (3, [18])], rx=[0, 1], tx=[2], bank=2, result=3)
-    done("one that is granted in its place", 0, three(**ask), command(0x20), after)
-    done("E0h leaves it", 0, three(**ask), command(0xE0), Record(SIX, rx=[0, 1], **ask))
-    done("40h drops it", 0, three(**ask), command(0x40), Record(bank=2))
-    after = Record([*SIX, (3, [18])], rx=[0, 1, 3], tx=[2], waiting=8).word(RCR, RXEN)
-    done("a frame overtakes it", 0, three(waiting=8).word(RCR, RXEN), frame(64), after)
-    damaged("for as many as are free", three(waiting=6))
-    damaged("for nine", three(waiting=9))
-    damaged("for eight, and a bit above", three(waiting=0x0108))
-    damaged("while the result reads 2", three(waiting=8, result=2))
-    damaged("for as many as are free, before 6", three(bank=2, packet=1, waiting=6), command(0xA0))
-    damaged("for one, none allocated", Record(waiting=1))
-
-
-def stored(name, record, asked, after, *words):
-    """A frame that is stored, then words of its packet, which is the last of RX: each an address and what is read there."""
-    done(name, 0, record, asked, after())
-    packet = after().slots[after().words[6] - 1]
-    for address, value in words:
-        reading = after().word(7, 0x3302).word(17, 0x8000 + packet).word(POINTER, 0x2000 + address)
-        done(f"  its word {address}", value, reading, request(2, DATA))
-
-
-def frames_stored():
-    """The wire has zeros only: the frame is to the station address, which is zeros too."""
-    stored("64 bytes", Record().word(RCR, RXEN), frame(64), lambda: Record([(0, [0])], rx=[0]).word(RCR, RXEN), (0, 0), (2, 70), (68, 0x4000))
-    stored("65 bytes", Record().word(RCR, RXEN), frame(65), lambda: Record([(0, [0])], rx=[0]).word(RCR, RXEN), (0, 0x1000), (2, 70), (68, 0x6000))
-    stored("1,518 bytes, in the last six pages", three().word(RCR, RXEN), frame(1518),
-           lambda: Record(SIX + [(3, range(18, 24))], rx=[0, 1, 3], tx=[2]).word(RCR, RXEN), (0, 0), (2, 1524), (1522, 0x4000))
-    stored("1,532 bytes, in seven pages", Record().word(RCR, RXEN), frame(1532), lambda: Record([(0, range(7))], rx=[0]).word(RCR, RXEN), (0, 0x0800), (2, 1538))
-    stored("63 bytes with a bad CRC and alignment, kept", Record().word(RCR, RXEN).word(CONTROL, KEEP_BAD), frame(63, 3),
-           lambda: Record([(0, [0])], rx=[0]).word(RCR, RXEN).word(CONTROL, KEEP_BAD), (0, 0xB400), (2, 68))
-    stored("64 bytes less the FCS", Record().word(RCR, RXEN + STRIP), frame(64), lambda: Record([(0, [0])], rx=[0]).word(RCR, RXEN + STRIP), (0, 0), (2, 66))
-    stored("to another station, all accepted", Record().word(RCR, RXEN + ALL).word(STATION, 2), frame(64),
-           lambda: Record([(0, [0])], rx=[0]).word(RCR, RXEN + ALL).word(STATION, 2), (2, 70))
-    stored("as many pages left as are reserved", three().word(RCR, RXEN).word(RESERVED, 0x3305), frame(64),
-           lambda: Record(SIX + [(3, [18])], rx=[0, 1, 3], tx=[2]).word(RCR, RXEN).word(RESERVED, 0x3305), (2, 70))
-
-
-def frames_not_stored():
-    refused("17 bytes", 11, three(), frame(17))
-    done("RXEN clear", 1, three(), frame(18))
-    done("to another station", 2, three().word(RCR, RXEN).word(STATION, 2), frame(1533))
-    done("1,533 bytes", 3, three().word(RCR, RXEN), frame(1533), three().word(RCR, RXEN + RX_ABORT))
-    done("all of the wire", 3, three().word(RCR, RXEN), frame(65535), three().word(RCR, RXEN + RX_ABORT))
-    done("a bad CRC", 4, three().word(RCR, RXEN), frame(64, 1))
-    done("alignment", 4, three().word(RCR, RXEN), frame(64, 2))
-    done("63 bytes", 4, three().word(RCR, RXEN), frame(63))
-    done("no page free", 5, full().word(RCR, RXEN), frame(64), full().word(RCR, RXEN + RX_ABORT).word(LATCHES, TX_EMPTY + OVERRUN))
-    done("seven pages needed, six free", 5, three().word(RCR, RXEN), frame(1532), three().word(RCR, RXEN + RX_ABORT).word(LATCHES, TX_EMPTY + OVERRUN))
-    reserved = three().word(RCR, RXEN).word(RESERVED, 0x3306)
-    after = three().word(RCR, RXEN + RX_ABORT).word(RESERVED, 0x3306).word(LATCHES, TX_EMPTY + OVERRUN)
-    done("fewer pages left than are reserved", 5, reserved, frame(64), after)
-    damaged("free count one less", three().word(4, 24 + 256 * 5), frame(17))
-    damaged("RX bit of packet 3 set", three().word(RCR, RXEN).word(28, 1 + 2 + 8), frame(64))
-    damaged("page 6 in two packets", three().word(RCR, RXEN).set(0, 0b1111111), frame(64))
-    damaged("a byte behind the end of completion", three().word(RCR, RXEN).slot(71, 1), frame(1518))
-
-
 def written(address, value):
     """A word of packet 2, whose pages are 12 to 17, with and without AUTO INCR by turns."""
     pointer = address + 0x4000 * (address // 2 % 2)
@@ -214,9 +145,118 @@ def sent(completion=(2,), tcr=TXENA, pages=SIX):
     return Record(pages, rx=[0, 1], completion=completion, tcr=tcr)
 
 
+def on_wire(length):
+    """So many bytes of packet 2, FCS included, are put out to the wire: zeros, to the station address zeros, but what the cases before wrote."""
+    count = length - FCS + 5 + (length + 1) % 2
+    written(2, count)
+    written(count - 2, ODD_DATA if length % 2 else 0)
+    done(f"{length} bytes onto the wire", length, sending(), send(), sent().word(EPHSR, SENT))
+
+
+def check_words(data):
+    """The two words of the FCS."""
+    fcs = zlib.crc32(data)
+    return fcs % 65536, fcs // 65536
+
+
+def waiting():
+    """Six pages are free, and an allocation waits for more (W1)."""
+    ask = dict(bank=2, waiting=8)
+    done("MIR while one waits", 1560, three(waiting=7), request(2, MIR))
+    after = Record([(0, [*range(6), 18, 19]), *SIX[1:]], rx=[1], tx=[2], bank=2, result=0)
+    done("granted by 80h: the number and the pages just freed, and the lowest others", 0, three(**ask), command(0x80), after)
+    idle = Record(SIX, rx=[0], packet=1, tx=[2], **ask)
+    after = Record([SIX[0], (1, [*range(6, 12), 18, 19]), SIX[2]], rx=[0], packet=1, tx=[2], bank=2, result=1)
+    done("granted by A0h", 0, idle, command(0xA0), after)
+    few = [(0, range(0, 8)), (1, range(8, 16)), (2, range(16, 18)), (3, range(18, 22))]
+    after = Record([few[0], few[1], few[3]], rx=[0, 1], packet=2, **ask)
+    done("A0h of too few: it waits on", 0, Record(few, rx=[0, 1], packet=2, **ask), command(0xA0), after)
+    refused("A0h refused", 6, three(packet=1, **ask), command(0xA0))
+    done("another that waits in its place", 0, three(**ask), command(0x26), three(bank=2, waiting=7))
+    after = Record([*SIX, (3, [18])], rx=[0, 1], tx=[2], bank=2, result=3)
+    done("one that is granted in its place", 0, three(**ask), command(0x20), after)
+    done("E0h leaves it", 0, three(**ask), command(0xE0), Record(SIX, rx=[0, 1], **ask))
+    done("40h drops it", 0, three(**ask), command(0x40), Record(bank=2))
+    after = Record([*SIX, (3, [18])], rx=[0, 1, 3], tx=[2], waiting=8).word(RCR, RXEN)
+    on_wire(64)
+    done("a frame overtakes it", 0, three(waiting=8).word(RCR, RXEN), frame(64), after)
+    damaged("for as many as are free", three(waiting=6))
+    damaged("for nine", three(waiting=9))
+    damaged("for eight, and a bit above", three(waiting=0x0108))
+    damaged("while the result reads 2", three(waiting=8, result=2))
+    damaged("for as many as are free, before 6", three(bank=2, packet=1, waiting=6), command(0xA0))
+    damaged("for one, none allocated", Record(waiting=1))
+
+
+def stored(name, record, asked, after, *words):
+    """A frame that is stored, then words of its packet, which is the last of RX: each an address and what is read there."""
+    done(name, 0, record, asked, after())
+    packet = after().slots[after().words[6] - 1]
+    for address, value in words:
+        reading = after().word(7, 0x3302).word(17, 0x8000 + packet).word(POINTER, 0x2000 + address)
+        done(f"  its word {address}", value, reading, request(2, DATA))
+
+
+def receiving(control=0, bits=0):
+    """RXEN set, nothing allocated."""
+    return Record().word(RCR, RXEN + bits).word(CONTROL, control)
+
+
+def held(pages, control=0, bits=0):
+    """The same with packet 0 in RX."""
+    return Record([(0, pages)], rx=[0]).word(RCR, RXEN + bits).word(CONTROL, control)
+
+
+def frames_stored():
+    """The wire has zeros and their FCS: the frame is to the station address, which is zeros too."""
+    low, high = check_words(bytes(60))
+    on_wire(64)
+    stored("64 bytes", receiving(), frame(64), lambda: held([0]), (0, 0), (2, 70), (62, 0), (64, low), (66, high), (68, 0x4000))
+    stored("bit 0 is ignored", receiving(), frame(64, 1), lambda: held([0]), (0, 0))
+    stored("alignment, kept", receiving(KEEP_BAD), frame(64, 2), lambda: held([0], KEEP_BAD), (0, 0x8000))
+    stored("64 bytes less the FCS", receiving(bits=STRIP), frame(64), lambda: held([0], bits=STRIP), (0, 0), (2, 66), (62, 0))
+    stored("to another station, all accepted", receiving(bits=ALL).word(STATION, 2), frame(64), lambda: held([0], bits=ALL).word(STATION, 2), (2, 70))
+    stored("as many pages left as are reserved", three().word(RCR, RXEN).word(RESERVED, 0x3305), frame(64),
+           lambda: Record(SIX + [(3, [18])], rx=[0, 1, 3], tx=[2]).word(RCR, RXEN).word(RESERVED, 0x3305), (2, 70))
+    stored("63 bytes, cut, with alignment, kept", receiving(KEEP_BAD), frame(63, 3), lambda: held([0], KEEP_BAD), (0, 0xB400), (2, 68))
+    stored("65 bytes, too many, kept", receiving(KEEP_BAD), frame(65), lambda: held([0], KEEP_BAD), (0, 0x3000), (2, 70))
+    on_wire(65)
+    stored("65 bytes", receiving(), frame(65), lambda: held([0]), (0, 0x1000), (2, 70))
+    on_wire(1518)
+    stored("1,518 bytes, in the last six pages", three().word(RCR, RXEN), frame(1518),
+           lambda: Record(SIX + [(3, range(18, 24))], rx=[0, 1, 3], tx=[2]).word(RCR, RXEN), (0, 0), (2, 1524), (1522, 0x4000))
+    on_wire(1532)
+    stored("1,532 bytes, in seven pages", receiving(), frame(1532), lambda: held(range(7)), (0, 0x0800), (2, 1538))
+    on_wire(64)
+
+
+def frames_not_stored():
+    refused("17 bytes", 11, three(), frame(17))
+    done("RXEN clear", 1, three(), frame(18))
+    done("to another station", 2, three().word(RCR, RXEN).word(STATION, 2), frame(1533))
+    done("1,533 bytes", 3, three().word(RCR, RXEN), frame(1533), three().word(RCR, RXEN + RX_ABORT))
+    done("all of the wire", 3, three().word(RCR, RXEN), frame(65535), three().word(RCR, RXEN + RX_ABORT))
+    done("a bad CRC", 4, three().word(RCR, RXEN), frame(65))
+    done("a bad CRC, with a bit that is ignored", 4, three().word(RCR, RXEN), frame(65, 1))
+    done("a bad CRC and alignment", 4, three().word(RCR, RXEN), frame(65, 2))
+    done("alignment", 4, three().word(RCR, RXEN), frame(64, 2))
+    done("63 bytes", 4, three().word(RCR, RXEN), frame(63))
+    done("no page free", 5, full().word(RCR, RXEN), frame(64), full().word(RCR, RXEN + RX_ABORT).word(LATCHES, TX_EMPTY + OVERRUN))
+    on_wire(1532)
+    done("seven pages needed, six free", 5, three().word(RCR, RXEN), frame(1532), three().word(RCR, RXEN + RX_ABORT).word(LATCHES, TX_EMPTY + OVERRUN))
+    on_wire(64)
+    reserved = three().word(RCR, RXEN).word(RESERVED, 0x3306)
+    after = three().word(RCR, RXEN + RX_ABORT).word(RESERVED, 0x3306).word(LATCHES, TX_EMPTY + OVERRUN)
+    done("fewer pages left than are reserved", 5, reserved, frame(64), after)
+    damaged("free count one less", three().word(4, 24 + 256 * 5), frame(17))
+    damaged("RX bit of packet 3 set", three().word(RCR, RXEN).word(28, 1 + 2 + 8), frame(64))
+    damaged("page 6 in two packets", three().word(RCR, RXEN).set(0, 0b1111111), frame(64))
+    damaged("a byte behind the end of completion", three().word(RCR, RXEN).slot(71, 1), frame(1518))
+
+
 def sends_refused():
-    """The wire's first six bytes are still zeros, and so is packet 2's byte count."""
-    refused("2,047 bytes for the output", 15, sending(), send(0, 0, 0, 1))
+    """Packet 2's byte count is that of the last frame on the wire, until it is written."""
+    refused("2,051 bytes for the output", 15, sending(), send(0, 0, 0, 1))
     refused("the same, before 11 and 12", 15, three(), send(6, 0, 0, 255))
     for asked in (send(6), send(0, 16), send(1, 15), send(0, 0, 3)):
         refused("outside the limits", 11, three(), asked)
@@ -236,29 +276,37 @@ def sends_refused():
 
 
 def sends_done():
-    """Packet 2 has 60 bytes, to all stations."""
+    """Packet 2 has 60 bytes, to all stations; they go out with their FCS, "failed sends put out the same bytes", and so they come in."""
+    low, high = check_words(6 * b"\xff" + bytes(54))
     for address in (4, 6, 8):
         written(address, 0xFFFF)
-    done("good, and TX is empty now", 60, sending().word(LATCHES, 0), send(), sent().word(EPHSR, SENT + BROADCAST))
+    done("good, and TX is empty now", 60 + FCS, sending().word(LATCHES, 0), send(), sent().word(EPHSR, SENT + BROADCAST))
     stored("what was put out comes in", Record().word(RCR, RXEN).word(STATION, 2), frame(64),
-           lambda: Record([(0, [0])], rx=[0]).word(RCR, RXEN).word(STATION, 2), (0, 0x4000), (2, 70), (8, 0xFFFF), (10, 0))
-    done("good after one collision", 60, sending(), send(0, 1), sent().word(EPHSR, SENT + BROADCAST).word(ECR, 0x0001))
-    done("deferred", 60, sending(), send(0, 0, 1), sent().word(EPHSR, SENT + BROADCAST).word(ECR, 0x0100))
-    done("lost carrier, which is good", 60, sending(), send(3), sent().word(EPHSR, SENT + BROADCAST))
-    done("lost carrier", 60, sending(TXENA + STOP_ON_CARRIER), send(3), sent(tcr=STOP_ON_CARRIER).word(EPHSR, 0x0400 + BROADCAST))
-    done("sixteen collisions", 60, sending(), send(1, 16), sent(tcr=0).word(EPHSR, 0x0010 + 0x0004 + BROADCAST).word(ECR, 0x0010))
-    done("a nibble comes to 15", 60, sending().word(ECR, 0x00E0), send(0, 2), sent().word(EPHSR, 0x1000 + SENT + BROADCAST).word(ECR, 0x00F0))
+           lambda: Record([(0, [0])], rx=[0]).word(RCR, RXEN).word(STATION, 2), (0, 0x4000), (2, 70), (8, 0xFFFF), (10, 0), (64, low), (66, high))
+    done("good after one collision", 60 + FCS, sending(), send(0, 1), sent().word(EPHSR, SENT + BROADCAST).word(ECR, 0x0001))
+    done("deferred", 60 + FCS, sending(), send(0, 0, 1), sent().word(EPHSR, SENT + BROADCAST).word(ECR, 0x0100))
+    done("lost carrier, which is good", 60 + FCS, sending(), send(3), sent().word(EPHSR, SENT + BROADCAST))
+    done("lost carrier", 60 + FCS, sending(TXENA + STOP_ON_CARRIER), send(3), sent(tcr=STOP_ON_CARRIER).word(EPHSR, 0x0400 + BROADCAST))
+    done("sixteen collisions", 60 + FCS, sending(), send(1, 16), sent(tcr=0).word(EPHSR, 0x0010 + 0x0004 + BROADCAST).word(ECR, 0x0010))
+    done("a nibble comes to 15", 60 + FCS, sending().word(ECR, 0x00E0), send(0, 2), sent().word(EPHSR, 0x1000 + SENT + BROADCAST).word(ECR, 0x00F0))
     released = sent(completion=(), pages=SIX[:2])
-    done("released", 60, sending().word(CONTROL, AUTO_RELEASE), send(), released.word(CONTROL, AUTO_RELEASE).word(EPHSR, SENT + BROADCAST))
+    done("released", 60 + FCS, sending().word(CONTROL, AUTO_RELEASE), send(), released.word(CONTROL, AUTO_RELEASE).word(EPHSR, SENT + BROADCAST))
     granted = Record([*SIX[:2], (2, [*range(12, 18), 18])], rx=[0, 1], tcr=TXENA, result=2)
-    done("released, and granted to one that waits for seven pages", 60, three(tcr=TXENA, waiting=7).word(CONTROL, AUTO_RELEASE), send(),
+    done("released, and granted to one that waits for seven pages", 60 + FCS, three(tcr=TXENA, waiting=7).word(CONTROL, AUTO_RELEASE), send(),
          granted.word(CONTROL, AUTO_RELEASE).word(EPHSR, SENT + BROADCAST))
-    done("failed: it waits on", 60, three(tcr=TXENA, waiting=7).word(CONTROL, AUTO_RELEASE), send(1, 16),
+    done("failed: it waits on", 60 + FCS, three(tcr=TXENA, waiting=7).word(CONTROL, AUTO_RELEASE), send(1, 16),
          Record(SIX, rx=[0, 1], completion=[2], waiting=7).word(CONTROL, AUTO_RELEASE).word(EPHSR, 0x0010 + 0x0004 + BROADCAST).word(ECR, 0x0010))
     written(2, 12)
-    done("six bytes", 6, sending(), send(), sent().word(EPHSR, SENT + BROADCAST))
-    done("six bytes, padded", 60, sending(TXENA + PAD), send(), sent(tcr=TXENA + PAD).word(EPHSR, SENT + BROADCAST))
-    done("the first of 24, its page being that of the frame", 64, full(tcr=TXENA), send(),
+    for control, tcr, value in (
+        (0, 0, 6 + FCS), (0, PAD, 60 + FCS), (0, NOCRC, 6), (0, NOCRC + PAD, 64),
+        (WITH_CRC, 0, 6 + FCS), (WITH_CRC, PAD, 60 + FCS), (WITH_CRC, NOCRC, 6 + FCS), (WITH_CRC, NOCRC + PAD, 60 + FCS),
+    ):
+        written(10, control)
+        done(f"six bytes, TCR {tcr:04x}, control byte {control >> 8:02x}", value, sending(TXENA + tcr), send(), sent(tcr=TXENA + tcr).word(EPHSR, SENT + BROADCAST))
+    written(10, 0)
+    done("64 bytes without an FCS onto the wire", 64, sending(TXENA + NOCRC + PAD), send(), sent(tcr=TXENA + NOCRC + PAD).word(EPHSR, SENT + BROADCAST))
+    done("  which is a bad CRC", 4, receiving(), frame(64))
+    done("the first of 24, its page being that of the frame", 64 + FCS, full(tcr=TXENA), send(),
          Record([(k, [k]) for k in range(24)], tx=range(1, 24), completion=[0], tcr=TXENA).word(EPHSR, SENT + BROADCAST))
 
 

@@ -1,9 +1,11 @@
 #!/usr/bin/env python3
-"""Writes crates/bench_runs/stdin and stdout: the cases that document 01 marks "Run", how W1 of document 02 lets the last of them go on, and the byte counts that W2 tells apart,
-each record with the answer that the papers give it.
+"""Writes crates/bench_runs/stdin and stdout: the cases that document 01 marks "Run", how W1 of document 02 lets the last of them go on, the byte counts that W2 tells apart,
+and the frame check sequences of W4 (zlib's), each record with the answer that the papers give it.
 
 usage: tests/runs/write.py      (in the repository's top folder)
 """
+import zlib
+
 records, lines = [], []
 
 
@@ -21,12 +23,22 @@ def write_word(offset, value, answer=0):
     says(answer, 0, 4, offset, value % 256, value // 256)
 
 
+def checked(data):
+    """The bytes and their FCS."""
+    return data + zlib.crc32(data).to_bytes(4, "little")
+
+
+def arrives(wire, value, flags=0):
+    """These bytes are gathered, and the frame ends."""
+    for at in range(0, len(wire), 6):
+        part = wire[at : at + 6]
+        says(0, 0, 5, len(part), *part)
+    says(0, value, 6, flags)
+
+
 def frame(length, value):
-    """A broadcast frame of so many bytes arrives."""
-    for at in range(0, length, 6):
-        count = min(6, length - at)
-        says(0, 0, 5, count, *[0xFF] * count)
-    says(0, value, 6)
+    """A broadcast frame of so many bytes arrives, with its FCS."""
+    arrives(checked(bytes([0xFF] * (length - 4))), value)
 
 
 def allocate(pages):
@@ -85,6 +97,8 @@ write_byte(0x0E, 2)
 says(0, 0x01 + 0x04 + 0x08, 1, 0x0C)  # RX, TX EMPTY, and the result still reads 0; no RX_OVRN
 write_byte(0x00, 0x40)  # all freed
 
+FCS = 4  # W4: "The send's value counts the FCS"
+
 # "25 sends of packet 0, each enqueued again and none acknowledged, end in 14"
 write_byte(0x00, 0x20)
 says(0, 0x00, 1, 0x03)
@@ -97,9 +111,9 @@ write_word(0x00, 0x0001)  # TXENA
 write_byte(0x0E, 2)
 for send in range(25):
     write_byte(0x00, 0xC0)
-    says(0 if send < 24 else 14, 6 if send < 24 else 0, 7)
+    says(0 if send < 24 else 14, 6 + FCS if send < 24 else 0, 7)
 write_byte(0x0C, 0x02)  # one acknowledged
-says(0, 6, 7)
+says(0, 6 + FCS, 7)
 write_byte(0x00, 0x40)
 
 # "24 pages taken, another allocation reads 80h"
@@ -189,11 +203,11 @@ enter(1, 0x0C, 0x0800)  # auto release
 allocate(1)
 write_byte(0x00, 0xC0)
 sees(0x80, TX_EMPTY, 0)
-says(0, 6, 7, 5)  # underrun
+says(0, 6 + FCS, 7, 5)  # underrun
 sees(0x80, COMPLETION + TX_EMPTY, 0)
 enter(0, 0x00, 0x0001)  # TXENA
 write_byte(0x00, 0xC0)
-says(0, 6, 7, 0)
+says(0, 6 + FCS, 7, 0)
 sees(5, COMPLETION + TX_EMPTY + ALLOCATION, 0)  # page 15 again; completion holds the failed send
 write_word(0x06, 0x6000)  # AUTO INCR, READ
 says(0, 0x0041, 2, 0x08)  # EPHSR, written before the release: good, to the broadcast address that the frame left there
@@ -247,12 +261,12 @@ says(0, 0xFFFE, 2, 0x08)
 write_byte(0x0E, 0)
 says(0, 0x0000, 2, 0x02)
 write_byte(0x0E, 2)
-sends(12, 0, 6)
+sends(12, 0, 6 + FCS)
 
 # "where 13 stood": behind 11 and 12, before 14
 for _ in range(23):
     write_byte(0x00, 0xC0)
-    says(0, 6, 7)
+    says(0, 6 + FCS, 7)
 write_byte(0x00, 0xC0)
 sends(12, 14, 0)
 sends(13, 13, 13)
@@ -264,7 +278,79 @@ says(12, 0, 7)  # TXENA clear
 enter(0, 0x00, 0x0001)
 sends(256, 14, 0)
 write_byte(0x0C, 0x02)  # one acknowledged
-says(0, 250, 7)
+says(0, 250 + FCS, 7)
+
+# W4: "A send appends four FCS bytes unless TCR bit 8 (NOCRC) is set and bit 4 of the packet's control byte is clear; padding goes to 60 before an FCS, or to 64
+# without one". Counts 12 and 70 are 6 and 64 bytes of data, and one more where the control byte says so.
+TXENA, PAD, NOCRC = 0x0001, 0x0080, 0x0100  # of TCR
+CRC, ODD = 0x10, 0x20  # of the control byte
+write_byte(0x00, 0x40)
+allocate(8)
+write_byte(0x02, 0)
+
+
+def appends(tcr, count, control, value):
+    """Packet 0 with that count and that control byte is sent."""
+    enter(0, 0x00, TXENA + tcr)
+    write_word(0x06, 0x4002)
+    write_word(0x08, count)
+    write_word(0x06, 0x4000 + count - 2)
+    write_word(0x08, 256 * control)
+    write_byte(0x00, 0xC0)
+    says(0, value, 7)
+    write_byte(0x0C, 0x02)  # acknowledged
+
+
+for crc in (0, CRC):
+    appends(0, 12, crc, 6 + FCS)
+    appends(PAD, 12, crc, 60 + FCS)
+    appends(PAD, 70, crc + ODD, 65 + FCS)
+appends(NOCRC, 12, 0, 6)
+appends(NOCRC, 12, ODD, 7)
+appends(NOCRC, 12, CRC, 6 + FCS)
+appends(NOCRC + PAD, 12, 0, 64)
+appends(NOCRC + PAD, 68, ODD, 64)  # 63 bytes of data
+appends(NOCRC + PAD, 70, ODD, 65)
+appends(NOCRC + PAD, 12, CRC, 60 + FCS)
+appends(0, 2048, ODD, 2047)  # the largest value
+appends(NOCRC, 2048, ODD, 2043)
+
+# "On arrival the bad CRC flag is no longer given but found from the frame"; "bit 0 of record kind 6 ignored"; RXEN is set
+ALL_STATIONS = bytes([0xFF] * 6)
+CHECK_VALUE = bytes.fromhex("2639f4cb")  # the standard's, of "123456789"
+assert checked(b"123456789")[-4:] == CHECK_VALUE
+right = checked(ALL_STATIONS + bytes(range(54)))
+wrong = [
+    right[:-1] + bytes([right[-1] ^ 0x80]),  # the last bit on the wire
+    right[:20] + bytes([right[20] ^ 0x01]) + right[21:],
+    right[:-4] + right[:-5:-1],  # the other order
+    right[:-4] + bytes(byte ^ 0xFF for byte in right[-4:]),  # not complemented
+    checked(right)[:-1],  # cut: 67 of 68 bytes
+]
+
+
+def stored(wire, status, flags=0):
+    """A frame that is stored has that status word."""
+    arrives(wire, 0, flags)
+    write_word(0x06, 0xE000)
+    says(0, status, 2, 0x08)
+    write_byte(0x00, 0x80)
+
+
+stored(right, 0x4000)
+stored(right, 0x4000, flags=1)
+arrives(right, 4, flags=2)
+arrives(right[:-4], 4)  # without its FCS: under 64 bytes, too
+for wire in wrong:
+    arrives(wire, 4)
+    arrives(wire, 4, flags=1)
+enter(1, 0x0C, 0x4000)  # damaged frames are stored: bit 13 bad CRC, 15 alignment, 10 under 64 bytes, 12 odd length
+stored(right, 0xC000, flags=2)
+stored(wrong[0], 0x6000)
+stored(wrong[1], 0xE000, flags=3)
+stored(wrong[4], 0x7000)
+stored(checked(ALL_STATIONS + b"123456789"), 0x5400)
+stored(ALL_STATIONS + b"123456789" + CHECK_VALUE, 0x7400)  # that is the FCS of another frame
 
 open("crates/bench_runs/stdin", "wb").write(b"".join(records))
 open("crates/bench_runs/stdout", "w").write("".join(lines))

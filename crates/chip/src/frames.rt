@@ -18,40 +18,30 @@ pub fn arrived(
     queues: &mut [u8],
     memory: &mut [u8],
     frame: &[u8],
-    bad_crc: bool,
     alignment: bool,
 ) -> Answer
     requires { ⌜ InOrder (now words) (now sets) (now queues) (now memory) ⌝ }
-    ensures { λ a. ⌜ Right (rules.step (rules.frame (frameOf (now (frame .entry)) «bad_crc» alignment)) (view (now (words .entry)) (now (sets .entry)) (now (queues .entry)) (now (memory .entry)))) a (now (words .exit)) (now (sets .exit)) (now (queues .exit)) (now (memory .exit)) [] ⌝ }
+    ensures { λ a. ⌜ Right (rules.step (rules.frame (frameOf (now (frame .entry)) alignment)) (view (now (words .entry)) (now (sets .entry)) (now (queues .entry)) (now (memory .entry)))) a (now (words .exit)) (now (sets .exit)) (now (queues .exit)) (now (memory .exit)) [] ⌝ }
 {
-    receive::arrived(words, sets, queues, memory, frame, bad_crc, alignment)
+    receive::arrived(words, sets, queues, memory, frame, alignment)
 }
 
-// A frame arrives: its bytes with FCS, and two flags.
+// A frame arrives: its bytes with FCS, and the flag alignment.
 pub fn frame(
     r: Registers,
     p: Pages,
     q: Queues,
     memory: &mut [u8],
     bytes: &[u8],
-    bad_crc: bool,
     alignment: bool,
 ) -> Returned
-    ensures { λ x. ⌜ Answers (rules.frame (frameOf (now (bytes .entry)) «bad_crc» alignment)) r p q (now (memory .entry)) x (now (memory .exit)) [] ⌝ }
+    ensures { λ x. ⌜ Answers (rules.frame (frameOf (now (bytes .entry)) alignment)) r p q (now (memory .entry)) x (now (memory .exit)) [] ⌝ }
 {
     let mut words = r.words;
     let mut sets = p.sets;
     let mut slots = q.slots;
     let answer = if in_order(&words, &sets, &slots, memory) {
-        arrived(
-            &mut words,
-            &mut sets,
-            &mut slots,
-            memory,
-            bytes,
-            bad_crc,
-            alignment,
-        )
+        arrived(&mut words, &mut sets, &mut slots, memory, bytes, alignment)
     } else {
         Answer::Damaged
     };

@@ -1,38 +1,28 @@
--- What antt computes at each byte.
+-- The bytes still to go.
 use mathlib.Core.Path.{_≡_, refl, ap, sym, _∙_}
-use mathlib.Core.Bool.{Bool, true, false, _&&_, true≢false}
-use Prim.Native.Nat.{ℕ, zero, suc, _*_, _^_, _<_, _≤_}
+use mathlib.Core.List.{List}
+use Prim.Native.Nat.{ℕ, suc, _+_, _<_, _≤_}
 use native.Mathlib.Omega.{arith}
-use native.Mathlib.Decide.{decLe}
-use borrow.Author.Tests.{eqb-true, ltb-true}
-use lib.Dec.{eqb, ltb}
-use Rattle.rules.specs.Crc.{crcBit, crcBits}
-use Rattle.crc.specs.Mirror.{mirror}
+use lib.ListN.{length, drop, drop-of-length-le, getD}
+use lib.Seq.{drop-cons}
+use Rattle.rules.specs.Crc.{crcBits, crcFrom}
 
--- does the test hold of every number below n
-unfoldable pub every : (ℕ → Bool) → ℕ → Bool
-every t zero = true
-every t (suc n) = t n && every t n
+-- none of them, one, the last one, and four
+pub none-on : (k r : ℕ) (bytes : List ℕ) → length bytes ≤ k → crcFrom r (drop k bytes) ≡ r
+unfolding crcFrom
+none-on k r bytes h = rw (drop-of-length-le bytes {i = k} h) refl
 
-every-at : (t : ℕ → Bool) (n : ℕ) → every t n ≡ true → (k : ℕ) → k < n → t k ≡ true
-unfolding every
-every-at t zero e k h = absurd (omega arith)
-every-at t (suc n) e k h = go (t n) refl e (every-at t n) (decLe n k)
-  where
-    go : (b : Bool) → t n ≡ b → b && every t n ≡ true → (every t n ≡ true → (j : ℕ) → j < n → t j ≡ true) → Dec (n ≤ k) → t k ≡ true
-    go false p q f d = absurd (true≢false (sym q))
-    go true p q f (yes l) = let same : k ≡ n = omega arith in ap t same ∙ p
-    go true p q f (no l) = f q k (omega arith)
+pub byte-on : (k j r : ℕ) (bytes : List ℕ) → j ≡ suc k → k < length bytes → crcFrom (crcBits 8 (getD bytes k 0) r) (drop j bytes) ≡ crcFrom r (drop k bytes)
+unfolding crcFrom
+byte-on k j r bytes e h = rw (e, drop-cons bytes k 0)
 
--- two functions have one value at each byte
-pub equal-at : (f g : ℕ → ℕ) → every (λ k. eqb (f k) (g k)) 256 ≡ true → (k : ℕ) → k < 256 → f k ≡ g k
-equal-at f g e k h = eqb-true (f k) (g k) (every-at (λ j. eqb (f j) (g j)) 256 e k h)
+pub last-on : (k r : ℕ) (bytes : List ℕ) → length bytes ≡ suc k → crcBits 8 (getD bytes k 0) r ≡ crcFrom r (drop k bytes)
+last-on k r bytes h = sym (none-on (suc k) (crcBits 8 (getD bytes k 0) r) bytes (omega (arith, h))) ∙ byte-on k (suc k) r bytes refl (omega (arith, h))
 
-pub mirror-lt : (x : ℕ) → x < 256 → mirror 8 x < 256
-unfolding every mirror
-mirror-lt x h = ltb-true (mirror 8 x) 256 (every-at (λ j. ltb (mirror 8 j) 256) 256 refl x h)
-
--- a byte that comes in, and the same byte mirrored at the top of the remainder
-pub mirror-in : (x : ℕ) → x < 256 → crcBits 8 x 0 ≡ crcBits 8 0 (mirror 8 x * 2 ^ 24)
-unfolding every mirror crcBits crcBit
-mirror-in = equal-at (λ x. crcBits 8 x 0) (λ x. crcBits 8 0 (mirror 8 x * 2 ^ 24)) refl
+pub four-on : (k r t : ℕ) (bytes : List ℕ) → k + 4 ≤ length bytes → t ≡ crcBits 8 (getD bytes (k + 3) 0) (crcBits 8 (getD bytes (k + 2) 0) (crcBits 8 (getD bytes (k + 1) 0) (crcBits 8 (getD bytes k 0) r))) → crcFrom t (drop (k + 4) bytes) ≡ crcFrom r (drop k bytes)
+four-on k r t bytes h e =
+    let a = crcBits 8 (getD bytes k 0) r in
+    let b = crcBits 8 (getD bytes (k + 1) 0) a in
+    let c = crcBits 8 (getD bytes (k + 2) 0) b in
+    ap (λ (x : ℕ). crcFrom x (drop (k + 4) bytes)) e ∙ byte-on (k + 3) (k + 4) c bytes (omega arith) (omega arith) ∙ byte-on (k + 2) (k + 3) b bytes (omega arith) (omega arith)
+    ∙ byte-on (k + 1) (k + 2) a bytes (omega arith) (omega arith) ∙ byte-on k (k + 1) r bytes (omega arith) (omega arith)

@@ -1,5 +1,4 @@
 -- Proofs that belong to no one function.
-pub mod Xor
-pub mod Linear
 pub mod Bytes
-pub mod Steps
+pub mod Words
+pub mod Arms

@@ -5,7 +5,7 @@ use native.Mathlib.Nat.{pow-suc, mul-comm, mul-assoc, add-mul}
 use native.Mathlib.Numerals.{add-one}
 use native.Mathlib.Omega.{arith}
 use lib.Pow.{pow-mono}
-use Rattle.crc.specs.Mirror.{mirror}
+use Rattle.rules.specs.Crc.{mirror}
 
 -- m turned, and n bits of x to go
 abbrev pub turning : ℕ → ℕ → ℕ → ℕ

@@ -1,14 +1,13 @@
 // Reads vectors from standard input, each a length of two bytes, the lower first, and that many bytes. Prints a line for each: the
-// length, the remainder as it is, the remainder as the standard publishes it, and the hash in its two halves.
+// length, the remainder as document 01 shifts it (left), the frame check sequence as the standard publishes it, and the hash in its two halves.
 ghost use mathlib.Core.Path.{_≡_};
-ghost use Prim.Native.Nat.{_-_, _^_};
-ghost use Rattle.crc.specs.Mirror.{mirror};
+ghost use Rattle.rules.specs.Crc.{mirror};
 
-// The published form of a remainder: complemented, and its bits in the other order.
-fn published(r: u32) -> u32
-    ensures { λ m. ⌜ m ≡ mirror 32 (2 ^ 32 - 1 - r) ⌝ }
+// The bits in the other order.
+fn turned(r: u32) -> u32
+    ensures { λ m. ⌜ m ≡ mirror 32 r ⌝ }
 {
-    let mut left = 0xffff_ffff - r;
+    let mut left = r;
     let mut m: u32 = 0;
     for k in 0..32u32 {
         m = m * 2 + left % 2;
@@ -22,24 +21,23 @@ fn space() {
 }
 
 // The three lowest bits.
-fn print_three(x: u8) {
+fn print_three(x: u32) {
     io::print_decimal(1, (x / 4 % 2) as u64);
     io::print_decimal(1, (x / 2 % 2) as u64);
     io::print_decimal(1, (x % 2) as u64);
 }
 
 fn print_line(bytes: &[u8]) {
-    let r = crc::remainder(bytes);
-    let h = crc::hash_of(bytes);
+    let r = turned(crc::remainder(bytes));
     io::print_decimal(1, bytes.len() as u64);
     space();
     io::print_hex(1, r as u64, 8);
     space();
-    io::print_hex(1, published(r) as u64, 8);
+    io::print_hex(1, crc::fcs(bytes) as u64, 8);
     space();
-    print_three(h / 8);
+    print_three(r / 0x2000_0000);
     space();
-    print_three(h);
+    print_three(r / 0x400_0000);
     io::write_all(1, b"\n");
 }
 

@@ -1,4 +1,4 @@
--- The client's three demands, and what document 02's W3 promises of strips, a record for each, of the rules and of the code; each is proved by citing what leads to it.
+-- The client's three demands, and what document 02's W3 promises of strips and W4 of the frame check sequence, a record for each, of the rules and of the code; each is proved by citing what leads to it.
 -- Of the rules: `step` and `run` (rules/specs/Step) on any chip; `powered l 24` is power-up, and `powerUp` that of document 01's chip, whose layout l is `paged`. Of the code: `Serves l i b x`, what the public
 -- entries `access`, `frame` and `send` promise of the input i on any board b (registers, page sets or counts and queues by value, and the memory lent), `chip`'s with l = `paged` and `strip_chip`'s with l = `strips`;
 -- `Runs l` of inputs one after another; `chipOf l b` is the chip that a board stands for, `replyTo x` document 01's number and value.
@@ -7,25 +7,28 @@ use mathlib.Core.Bool.{Bool, true, false}
 use mathlib.Core.Logic.{_⊎_}
 use mathlib.Core.List.{List, _∷_, _++_, map}
 use Prim.Native.Nat.{ℕ, _<_}
+use lib.ListN.{take}
 use Rattle.rules.specs.Lists.{member}
 use Rattle.rules.specs.Chip.{Layout, paged, strips, Chip, powered, powerUp}
 use Rattle.rules.specs.Interrupts.{lineUp}
 use Rattle.rules.specs.Registers.{Access}
-use Rattle.rules.specs.Receive.{Frame}
+use Rattle.rules.specs.Receive.{Frame, badCrc}
 use Rattle.rules.specs.Send.{Send}
 use Rattle.rules.specs.Step.{Input, driver, frame, sent, lent, step, run}
+use Rattle.lists.specs.Each.{Each}
 use Rattle.laws.specs.Sendable.{Reaches, ByCount, Before, told-by-count, told-before}
 use Rattle.laws.specs.Refusals.{refusals, Unchanged, Valued, numbers-given, refusal-leaves, refusal-value, sixteen-where, sixteen-there, never-seventeen}
 use Rattle.laws.specs.Accounted.{IsFree, InOne}
 use Rattle.laws.specs.Ledger.{Ledger, Resets, blank, ledgerFrom}
 use Rattle.laws.specs.Reading.{Balances}
+use Rattle.laws.specs.Fcs.{bytesOut, AppendsFcs, OneByteApart, step-sends-good, one-byte-changed-is-found}
 use Rattle.laws.specs.Loads.{Loads}
 use Rattle.laws.specs.Merge.{Merge, Alike, any-two}
 use Rattle.laws.specs.Written.{unwritten, OnlyWritten}
 use Rattle.laws.specs.StripsAlike.{StripsBeside, strips-beside}
 use Rattle.laws.specs.Theorems.{Whole, power-up-whole, step-whole, pages-accounted, since-power-up, since-reset}
 use Rattle.demands.specs.Boards.{Board, Left, replyTo, boardAfter, chipOf, ReadyBy, Good, Serves, Starts, Shows, Runs, AsRules, serves-right, serves-once}
-use Rattle.demands.specs.OfCode.{serves-numbers, serves-leaves, serves-values, serves-sixteen, serves-no17, serves-earlier, serves-counts, serves-pages, starts-up, BalancesOn, runs-balanced, runs-balanced-since, AlikeOn, any-two-on}
+use Rattle.demands.specs.OfCode.{serves-numbers, serves-leaves, serves-values, serves-sixteen, serves-no17, serves-earlier, serves-counts, serves-pages, starts-up, BalancesOn, runs-balanced, runs-balanced-since, serves-good-crc, AlikeOn, any-two-on}
 use Rattle.demands.specs.BesideCode.{BesideOn, runs-beside}
 
 -- Demand 1. "Every access, arriving frame and send gets an answer, whatever numbers and bytes come in. What the sheet forbids or the model lacks is refused by a number of document 01; a refusal changes no
@@ -40,7 +43,7 @@ pub record Demand1 : Type 0 where
   -- 16 exactly where the memory has not 6,144 bytes (of strips 49,152) or the chip is not well formed; 17 never
   pub sixteen : (i : Input) (c : Chip) → (step i c .reply .number ≡ 16 → Whole c → ⊥) × ((Whole c → ⊥) → step i c .reply .number ≡ 16)
   pub no17 : (i : Input) (c : Chip) → step i c .reply .number ≡ 17 → ⊥
-  -- a send gets 15 where its buffer has not 2,048 bytes, else 11 where its event is outside the limits, else 12 where TXENA is clear or TX is empty
+  -- a send gets 15 where its buffer has not 2,052 bytes, else 11 where its event is outside the limits, else 12 where TXENA is clear or TX is empty
   pub earlier : (s : Send) (out : List ℕ) (c : Chip) → Whole c → Before s c out (step (sent s out) c .reply)
   -- any other goes by the count in the packet: 13 odd, 18 under 12, 19 past the pages, in that order and before 14, each with that count
   pub counts : (s : Send) (out : List ℕ) (c : Chip) → Whole c → Reaches s c out → ByCount s c (step (sent s out) c .reply)
@@ -95,6 +98,14 @@ pub record BesidePages : Type 0 where
   pub codeBeside : (inputs : List Input) → OnlyWritten 24 inputs powerUp unwritten → (u v : Left) → Starts paged u → Starts strips v
       → (xs ys : List Left) → Runs paged inputs (u .board) xs → Runs strips inputs (v .board) ys → BesideOn inputs (u .board) xs (v .board) ys
 
+-- Document 02, W4. A frame check sequence does what it is for: a frame put out with one, by a good or a failed send, never has a bad CRC by the rule of arrival; and two frames of equal length, all bytes, that differ in exactly
+-- one never both have a good CRC.
+pub record FrameCheck : Type 0 where
+  pub sentGood : (s : Send) (out : List ℕ) (c : Chip) → step (sent s out) c .reply .number ≡ 0 → AppendsFcs c → badCrc (bytesOut (step (sent s out) c)) ≡ false
+  pub changedFound : (f g : List ℕ) → Each (λ b. b < 256) f → Each (λ b. b < 256) g → OneByteApart f g → badCrc f ≡ false → badCrc g ≡ false → ⊥
+  -- Of the code, on both chips: the first bytes of the buffer, as many as the answer's value says.
+  pub codeSentGood : (l : Layout) (s : Send) (out : List ℕ) (b : Board) (x : Left) → Serves l (sent s out) b x → replyTo x .number ≡ 0 → AppendsFcs (chipOf l b) → badCrc (take (replyTo x .value) (x .output)) ≡ false
+
 pub demand1 : Demand1
 demand1 = record {
   numbers = numbers-given 24;
@@ -134,3 +145,6 @@ demand3 = record { anyTwo = any-two 24; codeAnyTwo = any-two-on }
 
 pub beside-pages : BesidePages
 beside-pages = record { beside = strips-beside; codeBeside = runs-beside }
+
+pub frame-check : FrameCheck
+frame-check = record { sentGood = λ s out c. step-sends-good 24 s c out; changedFound = one-byte-changed-is-found; codeSentGood = serves-good-crc }

@@ -1,21 +1,23 @@
 -- What the demands say of the rules, carried over to the code: by the board's chip where the board is in order, and by refusal 16 where it is not.
-use mathlib.Core.Path.{_≡_, refl, ap, sym, subst, _∙_}
-use mathlib.Core.Bool.{true, true≢false}
+use mathlib.Core.Path.{_≡_, refl, ap, ap₂, sym, subst, _∙_}
+use mathlib.Core.Bool.{true, false, true≢false}
 use mathlib.Core.Logic.{_⊎_}
 use mathlib.Core.List.{List, [], _∷_, _++_, map}
 use Prim.Native.Nat.{ℕ, _+_, _*_, _<_}
 use native.Mathlib.Omega.{arith}
+use lib.ListN.{take}
 use Rattle.rules.specs.Lists.{member}
 use Rattle.rules.specs.Chip.{Layout, paged, Chip, powered}
 use Rattle.rules.specs.Answers.{Reply, Turn}
 use Rattle.rules.specs.Registers.{Access, read, byte, word}
-use Rattle.rules.specs.Receive.{Frame}
+use Rattle.rules.specs.Receive.{Frame, badCrc}
 use Rattle.rules.specs.Send.{Send}
 use Rattle.rules.specs.Step.{Input, driver, frame, sent, lent, step, run}
 use Rattle.laws.specs.Sendable.{Reaches, ByCount, Before, told-by-count, told-before}
 use Rattle.laws.specs.Refusals.{refusals, Valued, numbers-given, refusal-leaves, refusal-value, sixteen-where, never-seventeen}
 use Rattle.laws.specs.Accounted.{IsFree, InOne}
 use Rattle.laws.specs.Ledger.{Ledger, Resets, blank, ledgerFrom}
+use Rattle.laws.specs.Fcs.{AppendsFcs, step-sends-good}
 use Rattle.laws.specs.Loads.{Loads}
 use Rattle.laws.specs.Merge.{Merge, lefts, rights, lefts-alike, rights-alike, any-two}
 use Rattle.laws.specs.Reading.{readByte, readWord, told, reads, Balances}
@@ -86,6 +88,17 @@ module _ (l : Layout) where
 
   pub serves-counts : (s : Send) (out : List ℕ) (b : Board) (x : Left) → Good l b → Serves l (sent s out) b x → Reaches s (chipOf l b) out → ByCount s (chipOf l b) (replyTo x)
   serves-counts s out b x g a r = subst (ByCount s (chipOf l b)) (sym (serves-right l (sent s out) b x g a .reply)) (told-by-count 24 s out (chipOf l b) (good-whole b g) r)
+
+  -- What a send puts out with an FCS has a good CRC.
+  pub serves-good-crc : (s : Send) (out : List ℕ) (b : Board) (x : Left) → Serves l (sent s out) b x → replyTo x .number ≡ 0 → AppendsFcs (chipOf l b) → badCrc (take (replyTo x .value) (x .output)) ≡ false
+  serves-good-crc s out b x a e f = go (good? b)
+    where
+      go : Dec (Good l b) → badCrc (take (replyTo x .value) (x .output)) ≡ false
+      go (yes g) =
+          let r = serves-right l (sent s out) b x g a in
+          ap₂ (λ (t : Reply) (o : List ℕ). badCrc (take (t .value) o)) (r .reply) (r .output)
+          ∙ step-sends-good 24 s (chipOf l b) out (ap (λ (t : Reply). t .number) (sym (r .reply)) ∙ e) f
+      go (no n) = absurd (omega (arith, ap (λ (t : Reply). t .number) (serves-refused l (sent s out) b x n a .reply), e))
 
   -- Demand 2.
   pub serves-pages : l ≡ paged → (i : Input) (b : Board) (x : Left) → Good l b → Serves l i b x → (p : ℕ) → p < 24 → IsFree (chipOf l (x .board)) p ⊎ InOne (chipOf l (x .board)) p

@@ -109,12 +109,8 @@ fn arrived(
 {
     let n = within(wire, asked[2], asked[3]);
     let frame = &wire[0..n];
-    if asked[1] == 0 {
-        return chip::frame(registers, pages, queues, memory, frame, false, false);
-    }
-    let bad_crc = asked[1] % 2 == 1;
     let alignment = asked[1] / 2 % 2 == 1;
-    chip::frame(registers, pages, queues, memory, frame, bad_crc, alignment)
+    chip::frame(registers, pages, queues, memory, frame, alignment)
 }
 
 // The send of a record of kind 7, onto the wire less its first bytes.
@@ -281,6 +277,6 @@ fn main() {
     let mut input = [0; 65536];
     let n = io::read_full(STDIN_FILENO, &mut input);
     let mut memory = [0; 6144];
-    let mut wire = [0; 2048];
+    let mut wire = [0; 2052];
     answer_all(&input[..n], &mut memory, &mut wire);
 }

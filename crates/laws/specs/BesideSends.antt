@@ -17,10 +17,10 @@ use Rattle.rules.specs.Mmu.{due, freed}
 use Rattle.rules.specs.Send.{Send, inLimits, byteCount, sendLength, controlByte, putOut, good, newEphsr, sentRegisters, autoRelease, retire, statusWritten, sendHead, noPlace, ifUsable, ifSendable, byTxHead, finish}
 use Rattle.lists.specs.Facts.{member-first, head-and-rest}
 use Rattle.wellformed.specs.Cases.{pick}
-use Rattle.laws.specs.Head.{byteAt, headCount, countAt, count-is}
+use Rattle.laws.specs.Head.{byteAt, headCount, headControl, countAt, count-is}
 use Rattle.laws.specs.Sendable.{Reaches, within-decides, sendable-done}
 use Rattle.laws.specs.PutOut.{control-is}
-use Rattle.laws.specs.Written.{Marks, marked, settledMarks, sendMarks, headControl, ReadsWritten}
+use Rattle.laws.specs.Written.{Marks, marked, settledMarks, sendMarks, ReadsWritten}
 use Rattle.laws.specs.Placed.{get-alike}
 use Rattle.laws.specs.Packets.{Packets}
 use Rattle.laws.specs.Beside.{on, Follows, stays, same-answer, marksBy, Turns, pick-both, unless-both, Good, as-many-packets, gives-back-alike, Beside, puts-alike, both-good}
@@ -158,12 +158,12 @@ module _ {n : ℕ} {l : Layout} {m : Marks} {c : Chip} {ls : List (List ℕ)} {b
   pub same-finish : (Reaches s c out → ReadsWritten c m (finish s c out)) → R (finish s c out) (finish s other out)
   unfolding finish
   same-finish reads =
-      pick-both R (ltb (length out) 2048) (ltb (length out) 2048) refl (λ e. refuses (b .packets))
+      pick-both R (ltb (length out) 2052) (ltb (length out) 2052) refl (λ e. refuses (b .packets))
       (λ e. unless-both R (inLimits s) (inLimits s) refl (λ i. refuses (b .packets))
       (λ i. unless-both R (bit 0 (c .regs .sending .tcr)) (bit 0 (c .regs .sending .tcr)) refl (λ t. refuses (b .packets))
-      (λ t. go (ltb-false (length out) 2048 e) i t (c .pool .tx) refl)))
+      (λ t. go (ltb-false (length out) 2052 e) i t (c .pool .tx) refl)))
     where
-      go : 2048 ≤ length out → inLimits s ≡ true → bit 0 (c .regs .sending .tcr) ≡ true → (tx : List ℕ) → c .pool .tx ≡ tx → R (byTxHead s tx c out) (byTxHead s tx other out)
+      go : 2052 ≤ length out → inLimits s ≡ true → bit 0 (c .regs .sending .tcr) ≡ true → (tx : List ℕ) → c .pool .tx ≡ tx → R (byTxHead s tx c out) (byTxHead s tx other out)
       go room i t [] e = refuses (b .packets)
       go room i t (j ∷ js) e =
           let r : Reaches s c out = record { room = room; limits = within-decides s .sound i; enabled = t; waiting = rw e (omega arith) } in

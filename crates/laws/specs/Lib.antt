@@ -1,13 +1,17 @@
 -- What leads to the client's demands, which `demands` states. The modules tell the story in this order. No code rests on this crate.
--- What the rules compute: the worked example, the table of document 01, the hash examples of the data sheet.
+-- What the rules compute: the worked example, the table of document 01, the hash examples of the data sheet, and a broadcast with its FCS.
 pub mod Example
 pub mod EitherSide
+pub mod Broadcast
 -- Sentences of document 01 said of what is seen, and not of how it is made: which sends are done and which fault in a byte count refuses one, the bytes that a send puts out, the interrupt status and the line.
 pub mod Head
 pub mod Sendable
 pub mod PutOut
 pub mod Counters
 pub mod Line
+-- Document 02, W4, the frame check sequence: the residue of a good frame; what is sent is good, and one byte changed is found.
+pub mod Residue
+pub mod Fcs
 -- Demand 1: a refusal changes nothing, and which numbers an input may get.
 pub mod Refusals
 -- Demand 2: each page is free or in one packet, and the free count is accounted for. (`wellformed` has that each step keeps a chip well formed.)

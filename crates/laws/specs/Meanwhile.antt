@@ -1,6 +1,5 @@
 -- Demand 3 is about something: a driver fills a packet, and two frames are stored meanwhile, on a chip that is well formed. Computed.
 use mathlib.Core.Path.{_≡_, refl}
-use mathlib.Core.Bool.{false}
 use mathlib.Core.List.{List, [], _∷_, map}
 use Prim.Native.Nat.{ℕ}
 use lib.ListN.{getD, replicate, length-replicate}
@@ -11,12 +10,13 @@ use Rattle.rules.specs.Fields.{setRcr, setPages, inRegisters, inPool}
 use Rattle.rules.specs.Answers.{Reply, done}
 use Rattle.rules.specs.Tests.{above, ascends, allBelow, apart, noneOwned, pagesGood, laidGood, queueGood, queuesGood, numbersGood, requestGood, formed, fit}
 use Rattle.rules.specs.Packet.{place, getBytes, putBytes}
-use Rattle.rules.specs.Crc.{crcBit, crcBits, crcFrom, crc, hash}
-use Rattle.rules.specs.Receive.{Frame, sameBytes, broadcast, group, inTable, accepted, dataLength, countOf, pagesFor, needed, valueFor, dropped, judge, groupBits, frameStatus, trailer, image, after, arrive}
+use Rattle.rules.specs.Crc.{crcBit, crcBits, crcFrom, crc, hash, mirror, fcsWord, fourBytes}
+use Rattle.rules.specs.Receive.{Frame, sameBytes, badCrc, broadcast, group, inTable, accepted, dataLength, countOf, pagesFor, needed, valueFor, dropped, judge, groupBits, frameStatus, trailer, image, after, arrive}
 use Rattle.rules.specs.Data.{address, advance, next, ifPacket, against, oddFixed, past, ifOpen, writeData}
 use Rattle.rules.specs.Registers.{Access, write, byte, word, registerAt, misplaced, lanesAt, merged, bytesOf, lowOnly, writeRegister, access}
 use Rattle.rules.specs.Step.{Input, driver, frame, serve, stepOf, runOf, run}
 use Rattle.wellformed.specs.Fit.{formed-decides}
+use Rattle.laws.specs.Broadcast.{broadcasting}
 use Rattle.laws.specs.Loading.{toBank, toPacket, toPointer, toData}
 use Rattle.laws.specs.Loads.{Loads}
 use Rattle.laws.specs.Merge.{Merge, none, left, right}
@@ -31,9 +31,6 @@ abbrev pub filling : List Access
 filling = write byte 0xe 2 ∷ write byte 2 0 ∷ write word 6 0x4000 ∷ write word 8 0x1234 ∷ []
 
 -- two broadcasts
-abbrev pub broadcasting : Frame
-broadcasting = record { bytes = replicate 64 0xff; badCrc = false; alignment = false }
-
 abbrev pub arriving : List Frame
 arriving = broadcasting ∷ broadcasting ∷ []
 
@@ -60,7 +57,7 @@ pub record Seen : Type 0 where
   pub stored : ℕ
 
 unfoldable pub seen : Seen
-unfolding bit setBit clearBit flag lowByte highByte wordOf member some? owned unless freeBelow firstEmpty above ascends allBelow apart noneOwned pagesGood laidGood queueGood queuesGood numbersGood requestGood formed fit place getBytes putBytes crcBit crcBits crcFrom crc hash sameBytes broadcast group inTable accepted dataLength countOf pagesFor needed valueFor dropped judge groupBits frameStatus trailer image after arrive address advance next ifPacket against oddFixed past ifOpen writeData registerAt misplaced lanesAt merged bytesOf lowOnly writeRegister access serve stepOf runOf
+unfolding bit setBit clearBit flag lowByte highByte wordOf member some? owned unless freeBelow firstEmpty above ascends allBelow apart noneOwned pagesGood laidGood queueGood queuesGood numbersGood requestGood formed fit place getBytes putBytes crcBit crcBits crcFrom crc hash mirror fcsWord fourBytes sameBytes badCrc broadcast group inTable accepted dataLength countOf pagesFor needed valueFor dropped judge groupBits frameStatus trailer image after arrive address advance next ifPacket against oddFixed past ifOpen writeData registerAt misplaced lanesAt merged bytesOf lowOnly writeRegister access serve stepOf runOf
 seen =
     let x = run mixed listening in
     let c = x .chip in

@@ -26,8 +26,8 @@ pub record Within (s : Send) : Type 0 where
 
 -- a send that comes to the byte count of the packet at the head of TX: neither 15, 11 nor 12
 pub record Reaches (s : Send) (c : Chip) (out : List ℕ) : Type 0 where
-  -- refusal 15: "output buffer under 2,048 bytes"
-  pub room : 2048 ≤ length out
+  -- refusal 15: the output buffer is under 2,052 bytes (W4)
+  pub room : 2052 ≤ length out
   -- refusal 11: "event outside its limits"
   pub limits : Within s
   -- refusal 12: "TXENA clear, or TX FIFO empty"
@@ -73,33 +73,33 @@ module _ (s : Send) (c : Chip) (out : List ℕ) where
       → (Reaches s c out → P (ifSendable s (getD (c .pool .tx) 0 0) (drop 1 (c .pool .tx)) c out)) → P (finish s c out)
   unfolding finish
   by-reach P r15 r11 r12 h =
-      pick-by P (ltb (length out) 2048) (λ e. r15)
-      (λ e. pick-unless P (inLimits s) (λ l. r11) (λ l. pick-unless P (bit 0 (c .regs .sending .tcr)) (λ b. r12) (λ b. go (ltb-false (length out) 2048 e) l b (c .pool .tx) refl)))
+      pick-by P (ltb (length out) 2052) (λ e. r15)
+      (λ e. pick-unless P (inLimits s) (λ l. r11) (λ l. pick-unless P (bit 0 (c .regs .sending .tcr)) (λ b. r12) (λ b. go (ltb-false (length out) 2052 e) l b (c .pool .tx) refl)))
     where
-      go : 2048 ≤ length out → inLimits s ≡ true → bit 0 (c .regs .sending .tcr) ≡ true → (l : List ℕ) → c .pool .tx ≡ l → P (byTxHead s l c out)
+      go : 2052 ≤ length out → inLimits s ≡ true → bit 0 (c .regs .sending .tcr) ≡ true → (l : List ℕ) → c .pool .tx ≡ l → P (byTxHead s l c out)
       go room i b [] e = r12
       go room i b (k ∷ ks) e =
           subst (λ (m : List ℕ). P (ifSendable s (getD m 0 0) (drop 1 m) c out)) e (h (record { room = room; limits = within-decides s .sound i; enabled = b; waiting = rw e (omega arith) }))
 
   -- One that does not come to the count gets 15, 11 or 12, in that order.
-  short-output : length out < 2048 → finish s c out ≡ refused 15 c out
+  short-output : length out < 2052 → finish s c out ≡ refused 15 c out
   unfolding finish
-  short-output l = rw (lt-ltb (length out) 2048 l)
+  short-output l = rw (lt-ltb (length out) 2052 l)
 
-  module _ (room : 2048 ≤ length out) where
+  module _ (room : 2052 ≤ length out) where
     outside : (Within s → ⊥) → finish s c out ≡ refused 11 c out
     unfolding finish
-    outside n = rw (le-ltb (length out) 2048 room, outside-limits s n)
+    outside n = rw (le-ltb (length out) 2052 room, outside-limits s n)
 
     module _ (w : Within s) where
       not-enabled : bit 0 (c .regs .sending .tcr) ≡ false → finish s c out ≡ refused 12 c out
       unfolding finish
-      not-enabled e = rw (le-ltb (length out) 2048 room, within-decides s .complete w, e)
+      not-enabled e = rw (le-ltb (length out) 2052 room, within-decides s .complete w, e)
 
       none-queued : bit 0 (c .regs .sending .tcr) ≡ true → length (c .pool .tx) ≡ 0 → finish s c out ≡ refused 12 c out
       unfolding finish
       none-queued e h =
-          rw (le-ltb (length out) 2048 room, within-decides s .complete w, e) (ap (λ (l : List ℕ). byTxHead s l c out) (no-head (c .pool .tx) h))
+          rw (le-ltb (length out) 2052 room, within-decides s .complete w, e) (ap (λ (l : List ℕ). byTxHead s l c out) (no-head (c .pool .tx) h))
 
   -- A send that is done was sendable, and sent the head of TX.
   pub served : finish s c out .reply .number ≡ 0 → Served s c out (finish s c out)
@@ -129,7 +129,7 @@ module _ (s : Send) (c : Chip) (out : List ℕ) where
     reached : finish s c out ≡ ifSendable s (getD (c .pool .tx) 0 0) (drop 1 (c .pool .tx)) c out
     unfolding finish
     reached =
-        rw (le-ltb (length out) 2048 (r .room), within-decides s .complete (r .limits), r .enabled)
+        rw (le-ltb (length out) 2052 (r .room), within-decides s .complete (r .limits), r .enabled)
         (ap (λ (l : List ℕ). byTxHead s l c out) (head-and-rest (c .pool .tx) 0 (r .waiting)))
 
     odd-count : bit 0 (headCount c) ≡ true → finish s c out ≡ refusedWith 13 (headCount c) c out
@@ -170,10 +170,10 @@ pub record ByCount (s : Send) (c : Chip) (r : Reply) : Type 0 where
 -- The reply to any other send: "Sends 16, 15, 11, 12", in that order, whatever the count.
 pub record Before (s : Send) (c : Chip) (out : List ℕ) (r : Reply) : Type 0 where
   -- each send lends its own buffer, and a short one gets 15
-  pub short : length out < 2048 → r ≡ refusal 15
-  pub outside : 2048 ≤ length out → (Within s → ⊥) → r ≡ refusal 11
-  pub disabled : 2048 ≤ length out → Within s → bit 0 (c .regs .sending .tcr) ≡ false → r ≡ refusal 12
-  pub empty : 2048 ≤ length out → Within s → bit 0 (c .regs .sending .tcr) ≡ true → length (c .pool .tx) ≡ 0 → r ≡ refusal 12
+  pub short : length out < 2052 → r ≡ refusal 15
+  pub outside : 2052 ≤ length out → (Within s → ⊥) → r ≡ refusal 11
+  pub disabled : 2052 ≤ length out → Within s → bit 0 (c .regs .sending .tcr) ≡ false → r ≡ refusal 12
+  pub empty : 2052 ≤ length out → Within s → bit 0 (c .regs .sending .tcr) ≡ true → length (c .pool .tx) ≡ 0 → r ≡ refusal 12
 
 -- Of a step, at any part size n: it goes by the count where the send comes to it, and else it is refused with a number that stands before.
 module _ (n : ℕ) (s : Send) (out : List ℕ) (c : Chip) (w : Fits n c) where

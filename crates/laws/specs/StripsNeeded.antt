@@ -13,8 +13,9 @@ use Rattle.rules.specs.Packet.{place, getBytes, putBytes}
 use Rattle.rules.specs.Mmu.{decode, perform, due, settle}
 use Rattle.rules.specs.Data.{address, advance, next, ifPacket, against, oddFixed, past, ifOpen, valueOf, readData, writeData}
 use Rattle.rules.specs.Registers.{Access, read, write, byte, word, registerAt, misplaced, lanesAt, taken, merged, width, bytesOf, headOf, newRcr, writeRcr, forgotten, writeTcr, lowOnly, readRegister, writeRegister, access}
-use Rattle.rules.specs.Receive.{Frame, sameBytes, broadcast, group, accepted, dataLength, countOf, pagesFor, needed, valueFor, dropped, judge, groupBits, frameStatus, trailer, image, after, arrive}
-use Rattle.rules.specs.Send.{inLimits, byteCount, sendLength, padded, controlByte, putOut, good, failureBit, collisionBits, outcomeBits, addressBits, nibble, counted, tally, nibbles, anyAt15, newEcr, newEphsr, autoRelease, sendHead, ifUsable, ifSendable, finish}
+use Rattle.rules.specs.Crc.{crcBit, crcBits, crcFrom, crc, mirror, fcsWord, fourBytes}
+use Rattle.rules.specs.Receive.{Frame, sameBytes, badCrc, broadcast, group, accepted, dataLength, countOf, pagesFor, needed, valueFor, dropped, judge, groupBits, frameStatus, trailer, image, after, arrive}
+use Rattle.rules.specs.Send.{inLimits, byteCount, sendLength, appends, padded, ended, onWire, controlByte, putOut, good, failureBit, collisionBits, outcomeBits, addressBits, nibble, counted, tally, nibbles, anyAt15, newEcr, newEphsr, autoRelease, sendHead, ifUsable, ifSendable, finish}
 use Rattle.rules.specs.Step.{Input, driver, frame, sent, serve, stepOf, runOf}
 use Rattle.laws.specs.Written.{Marks, unwritten, marked, anew, commandMarks, writeMarks, accessMarks, inputMarks, written, OnlyWritten, writtenBy}
 
@@ -24,11 +25,11 @@ pub record Last : Type 0 where
   pub output : List ℕ
 
 unfoldable pub lastOf : ℕ → Layout → List Input → Last
-unfolding bit setBit clearBit flag lowByte highByte wordOf wordAt member some? owned unless freeBelow total upFrom firstEmpty above ascends allBelow apart noneOwned pagesGood goesUp ownGood laidGood queueGood queuesGood numbersGood requestGood formed fit place getBytes putBytes decode perform due settle address advance next ifPacket against oddFixed past ifOpen valueOf readData writeData registerAt misplaced lanesAt taken merged width bytesOf headOf forgotten writeTcr lowOnly readRegister writeRegister access sameBytes broadcast group accepted dataLength countOf pagesFor needed valueFor dropped judge groupBits frameStatus trailer image after arrive newRcr writeRcr inLimits byteCount sendLength padded controlByte putOut good failureBit collisionBits outcomeBits addressBits nibble counted tally nibbles anyAt15 newEcr newEphsr autoRelease sendHead ifUsable ifSendable finish serve stepOf runOf
+unfolding bit setBit clearBit flag lowByte highByte wordOf wordAt member some? owned unless freeBelow total upFrom firstEmpty above ascends allBelow apart noneOwned pagesGood goesUp ownGood laidGood queueGood queuesGood numbersGood requestGood formed fit place getBytes putBytes decode perform due settle address advance next ifPacket against oddFixed past ifOpen valueOf readData writeData registerAt misplaced lanesAt taken merged width bytesOf headOf crcBit crcBits crcFrom crc mirror fcsWord fourBytes forgotten writeTcr lowOnly readRegister writeRegister access sameBytes badCrc broadcast group accepted dataLength countOf pagesFor needed valueFor dropped judge groupBits frameStatus trailer image after arrive newRcr writeRcr inLimits byteCount sendLength appends padded ended onWire controlByte putOut good failureBit collisionBits outcomeBits addressBits nibble counted tally nibbles anyAt15 newEcr newEphsr autoRelease sendHead ifUsable ifSendable finish serve stepOf runOf
 lastOf n l inputs =
     let x = runOf n inputs (powered l n) in
     let i = length inputs - 1 in
-    record { reply = getD (x .replies) i done; output = take 8 (getD (x .outputs) i []) }
+    record { reply = getD (x .replies) i done; output = take 12 (getD (x .outputs) i []) }
 
 -- of n packets: x is seen on the paged chip, and y on the chip of strips
 abbrev Seen : ℕ → List Input → Last → Last → Type 0
@@ -52,23 +53,23 @@ left =
 -- after these accesses the packet joins TX, transmission is enabled, and a send finishes
 abbrev sentAfter : List Access → List Input
 sentAfter accesses =
-    map driver (accesses ++ (write byte 0 0xc0 ∷ write byte 0xe 0 ∷ write byte 0 1 ∷ [])) ++ (sent (record { outcome = 0; collisions = 0; deferral = 0 }) (replicate 2048 0) ∷ [])
+    map driver (accesses ++ (write byte 0 0xc0 ∷ write byte 0xe 0 ∷ write byte 0 1 ∷ [])) ++ (sent (record { outcome = 0; collisions = 0; deferral = 0 }) (replicate 2052 0) ∷ [])
 
 -- The count is not written: one chip sends, and the other answers 18.
 pub count-unwritten : Seen 24 (sentAfter left)
-    (sends 7 (0x11 ∷ 0x11 ∷ 0x22 ∷ 0x22 ∷ 0x33 ∷ 0x33 ∷ 0x44 ∷ 0 ∷ [])) (record { reply = refusalWith 18 0; output = replicate 8 0 })
+    (sends 11 (0x11 ∷ 0x11 ∷ 0x22 ∷ 0x22 ∷ 0x33 ∷ 0x33 ∷ 0x44 ∷ 0x9b ∷ 0x39 ∷ 0x82 ∷ 0x86 ∷ 0 ∷ [])) (record { reply = refusalWith 18 0; output = replicate 12 0 })
 unfolding lastOf
 count-unwritten = (refl, refl)
 
 -- The count and the data are, and the control byte is not: one chip puts out a byte more.
 pub control-unwritten : Seen 2 (sentAfter (left ++ (write word 6 0x4002 ∷ write word 8 12 ∷ write word 8 0x5555 ∷ write word 8 0x6666 ∷ write word 8 0x7777 ∷ write byte 8 0x88 ∷ [])))
-    (sends 7 (0x55 ∷ 0x55 ∷ 0x66 ∷ 0x66 ∷ 0x77 ∷ 0x77 ∷ 0x88 ∷ 0 ∷ [])) (sends 6 (0x55 ∷ 0x55 ∷ 0x66 ∷ 0x66 ∷ 0x77 ∷ 0x77 ∷ 0 ∷ 0 ∷ []))
+    (sends 11 (0x55 ∷ 0x55 ∷ 0x66 ∷ 0x66 ∷ 0x77 ∷ 0x77 ∷ 0x88 ∷ 0xee ∷ 0x30 ∷ 0x5e ∷ 0x6a ∷ 0 ∷ [])) (sends 10 (0x55 ∷ 0x55 ∷ 0x66 ∷ 0x66 ∷ 0x77 ∷ 0x77 ∷ 0xbf ∷ 0x6c ∷ 0x7a ∷ 0xe1 ∷ 0 ∷ 0 ∷ []))
 unfolding lastOf
 control-unwritten = (refl, refl)
 
 -- The count and the control byte are, and the data is not: the same answer, and other bytes put out.
 pub data-unwritten : Seen 2 (sentAfter (left ++ (write word 6 0x4002 ∷ write word 8 12 ∷ write word 6 0x400a ∷ write word 8 0 ∷ [])))
-    (sends 6 (0x11 ∷ 0x11 ∷ 0x22 ∷ 0x22 ∷ 0x33 ∷ 0x33 ∷ 0 ∷ 0 ∷ [])) (sends 6 (replicate 8 0))
+    (sends 10 (0x11 ∷ 0x11 ∷ 0x22 ∷ 0x22 ∷ 0x33 ∷ 0x33 ∷ 0xb2 ∷ 0x3f ∷ 0x81 ∷ 0x5e ∷ 0 ∷ 0 ∷ [])) (sends 10 (0 ∷ 0 ∷ 0 ∷ 0 ∷ 0 ∷ 0 ∷ 0xa3 ∷ 0xa1 ∷ 0xc2 ∷ 0xb1 ∷ 0 ∷ 0 ∷ []))
 unfolding lastOf
 data-unwritten = (refl, refl)
 
@@ -81,7 +82,7 @@ loaded =
 abbrev grantedAnew : List Access
 grantedAnew = loaded ++ (write byte 0 0xa0 ∷ write byte 2 0 ∷ write byte 0 0xa0 ∷ write byte 0 0x21 ∷ write byte 0 0x20 ∷ write byte 2 1 ∷ [])
 
-pub written-before-the-grant : Seen 3 (sentAfter grantedAnew) (record { reply = refusalWith 18 0; output = replicate 8 0 }) (sends 7 (0x11 ∷ 0x11 ∷ 0x22 ∷ 0x22 ∷ 0x33 ∷ 0x33 ∷ 0x44 ∷ 0 ∷ []))
+pub written-before-the-grant : Seen 3 (sentAfter grantedAnew) (record { reply = refusalWith 18 0; output = replicate 12 0 }) (sends 11 (0x11 ∷ 0x11 ∷ 0x22 ∷ 0x22 ∷ 0x33 ∷ 0x33 ∷ 0x44 ∷ 0x9b ∷ 0x39 ∷ 0x82 ∷ 0x86 ∷ 0 ∷ []))
 unfolding lastOf
 written-before-the-grant = (refl, refl)
 
@@ -108,9 +109,9 @@ pub read-half-written : Seen 2 (map driver (left ++ (write word 6 4 ∷ write by
 unfolding lastOf
 read-half-written = (refl, refl)
 
--- Why a frame is to be of bytes. Packet 0 has a page, and a frame of numbers 300 is stored in the other; both are released, packet 0 has both, and byte 261 of it is written: 77h is the high byte of the word at 260, but not of what the paged chip returns, which is 300 + 256 * 77h.
+-- Why a frame is to be of bytes. Packet 0 has a page, and a frame of numbers 300, with their FCS, is stored in the other; both are released, packet 0 has both, and byte 261 of it is written: 77h is the high byte of the word at 260, but not of what the paged chip returns, which is 300 + 256 * 77h.
 abbrev numbers : Frame
-numbers = record { bytes = replicate 64 300; badCrc = false; alignment = false }
+numbers = record { bytes = replicate 60 300 ++ (0x25 ∷ 0x5c ∷ 0x33 ∷ 0xbe ∷ []); alignment = false }
 
 pub frame-of-numbers : Seen 2
     (map driver (write byte 4 2 ∷ write byte 5 1 ∷ write byte 0xe 2 ∷ write byte 0 0x20 ∷ [])

@@ -15,14 +15,15 @@ use Rattle.rules.specs.Packet.{place, getBytes, putBytes}
 use Rattle.rules.specs.Mmu.{decode, perform, due, settle}
 use Rattle.rules.specs.Data.{address, advance, next, ifPacket, against, oddFixed, past, ifOpen, valueOf, readData, writeData}
 use Rattle.rules.specs.Registers.{Access, read, write, byte, word, registerAt, misplaced, lanesAt, taken, merged, width, bytesOf, headOf, newRcr, writeRcr, forgotten, writeTcr, lowOnly, readRegister, writeRegister, access}
-use Rattle.rules.specs.Crc.{crcBit, crcBits, crcFrom, crc, hash}
-use Rattle.rules.specs.Receive.{Frame, sameBytes, broadcast, group, inTable, accepted, dataLength, countOf, pagesFor, needed, valueFor, dropped, judge, groupBits, frameStatus, trailer, image, after, arrive}
-use Rattle.rules.specs.Send.{inLimits, byteCount, sendLength, padded, controlByte, putOut, good, failureBit, collisionBits, outcomeBits, addressBits, nibble, counted, tally, nibbles, anyAt15, newEcr, newEphsr, autoRelease, sendHead, ifUsable, ifSendable, finish}
+use Rattle.rules.specs.Crc.{crcBit, crcBits, crcFrom, crc, hash, mirror, fcsWord, fourBytes}
+use Rattle.rules.specs.Receive.{sameBytes, badCrc, broadcast, group, inTable, accepted, dataLength, countOf, pagesFor, needed, valueFor, dropped, judge, groupBits, frameStatus, trailer, image, after, arrive}
+use Rattle.rules.specs.Send.{inLimits, byteCount, sendLength, appends, padded, ended, onWire, controlByte, putOut, good, failureBit, collisionBits, outcomeBits, addressBits, nibble, counted, tally, nibbles, anyAt15, newEcr, newEphsr, autoRelease, sendHead, ifUsable, ifSendable, finish}
 use Rattle.rules.specs.Step.{Input, driver, frame, sent, serve, stepOf, runOf, run}
 use Rattle.lists.specs.Facts.{_and_, is-true}
 use Rattle.wellformed.specs.Fit.{below-decides}
-use Rattle.laws.specs.Head.{headCount}
-use Rattle.laws.specs.Written.{Marks, unwritten, marked, anew, commandMarks, writeMarks, accessMarks, frameMarks, sendMarks, inputMarks, written, headControl, writtenBy, ReadsWritten, Minds, OnlyWritten}
+use Rattle.laws.specs.Broadcast.{broadcasting}
+use Rattle.laws.specs.Head.{headCount, headControl}
+use Rattle.laws.specs.Written.{Marks, unwritten, marked, anew, commandMarks, writeMarks, accessMarks, frameMarks, sendMarks, inputMarks, written, writtenBy, ReadsWritten, Minds, OnlyWritten}
 use Rattle.laws.specs.StripsAlike.{StripsBeside, strips-beside}
 
 -- are w bytes of packet k, from address a on, written
@@ -87,10 +88,6 @@ loads =
     write byte 0xe 2 ∷ write byte 0 0x20 ∷ write byte 2 0 ∷ write word 6 0x4002 ∷ write word 8 12 ∷ write word 8 0x1111 ∷ write word 8 0x2222 ∷ write word 8 0x3333 ∷ write word 8 0
     ∷ write byte 0 0xc0 ∷ []
 
--- a broadcast
-abbrev arriving : Frame
-arriving = record { bytes = replicate 64 0xff; badCrc = false; alignment = false }
-
 -- status, count and the first two bytes of the RX head are read, and it is removed and released
 abbrev drains : List Access
 drains = write word 6 0xe000 ∷ read word 8 ∷ read word 8 ∷ read word 8 ∷ write byte 0 0x80 ∷ []
@@ -100,20 +97,20 @@ abbrev pub toSend : List Input
 toSend = map driver (starts ++ loads)
 
 abbrev pub toSent : List Input
-toSent = toSend ++ (sent (record { outcome = 0; collisions = 0; deferral = 0 }) (replicate 2048 0) ∷ [])
+toSent = toSend ++ (sent (record { outcome = 0; collisions = 0; deferral = 0 }) (replicate 2052 0) ∷ [])
 
 abbrev pub toFrame : List Input
-toFrame = toSent ++ (frame arriving ∷ [])
+toFrame = toSent ++ (frame broadcasting ∷ [])
 
 abbrev pub used : List Input
 used = toFrame ++ map driver drains
 
 used-test : allMinded 24 used powerUp unwritten ≡ true
-unfolding bit setBit clearBit flag lowByte highByte wordOf wordAt member some? owned unless freeBelow firstEmpty above ascends allBelow apart noneOwned pagesGood laidGood queueGood queuesGood numbersGood requestGood formed fit place getBytes putBytes decode perform due settle address advance next ifPacket against oddFixed past ifOpen valueOf readData writeData registerAt misplaced lanesAt taken merged width bytesOf headOf newRcr writeRcr forgotten writeTcr lowOnly readRegister writeRegister access crcBit crcBits crcFrom crc hash sameBytes broadcast group inTable accepted dataLength countOf pagesFor needed valueFor dropped judge groupBits frameStatus trailer image after arrive inLimits byteCount sendLength padded controlByte putOut good failureBit collisionBits outcomeBits addressBits nibble counted tally nibbles anyAt15 newEcr newEphsr autoRelease sendHead ifUsable ifSendable finish serve stepOf allMarked readsMarked minded allMinded marked anew commandMarks writeMarks accessMarks frameMarks sendMarks inputMarks written
+unfolding bit setBit clearBit flag lowByte highByte wordOf wordAt member some? owned unless freeBelow firstEmpty above ascends allBelow apart noneOwned pagesGood laidGood queueGood queuesGood numbersGood requestGood formed fit place getBytes putBytes decode perform due settle address advance next ifPacket against oddFixed past ifOpen valueOf readData writeData registerAt misplaced lanesAt taken merged width bytesOf headOf newRcr writeRcr forgotten writeTcr lowOnly readRegister writeRegister access crcBit crcBits crcFrom crc hash mirror fcsWord fourBytes sameBytes badCrc broadcast group inTable accepted dataLength countOf pagesFor needed valueFor dropped judge groupBits frameStatus trailer image after arrive inLimits byteCount sendLength appends padded ended onWire controlByte putOut good failureBit collisionBits outcomeBits addressBits nibble counted tally nibbles anyAt15 newEcr newEphsr autoRelease sendHead ifUsable ifSendable finish serve stepOf allMarked readsMarked minded allMinded marked anew commandMarks writeMarks accessMarks frameMarks sendMarks inputMarks written
 used-test = refl
 
 unfoldable pub usedReplies : List Reply
-unfolding bit setBit clearBit flag lowByte highByte wordOf wordAt member some? owned unless freeBelow firstEmpty above ascends allBelow apart noneOwned pagesGood laidGood queueGood queuesGood numbersGood requestGood formed fit place getBytes putBytes decode perform due settle address advance next ifPacket against oddFixed past ifOpen valueOf readData writeData registerAt misplaced lanesAt taken merged width bytesOf headOf newRcr writeRcr forgotten writeTcr lowOnly readRegister writeRegister access crcBit crcBits crcFrom crc hash sameBytes broadcast group inTable accepted dataLength countOf pagesFor needed valueFor dropped judge groupBits frameStatus trailer image after arrive inLimits byteCount sendLength padded controlByte putOut good failureBit collisionBits outcomeBits addressBits nibble counted tally nibbles anyAt15 newEcr newEphsr autoRelease sendHead ifUsable ifSendable finish serve stepOf runOf
+unfolding bit setBit clearBit flag lowByte highByte wordOf wordAt member some? owned unless freeBelow firstEmpty above ascends allBelow apart noneOwned pagesGood laidGood queueGood queuesGood numbersGood requestGood formed fit place getBytes putBytes decode perform due settle address advance next ifPacket against oddFixed past ifOpen valueOf readData writeData registerAt misplaced lanesAt taken merged width bytesOf headOf newRcr writeRcr forgotten writeTcr lowOnly readRegister writeRegister access crcBit crcBits crcFrom crc hash mirror fcsWord fourBytes sameBytes badCrc broadcast group inTable accepted dataLength countOf pagesFor needed valueFor dropped judge groupBits frameStatus trailer image after arrive inLimits byteCount sendLength appends padded ended onWire controlByte putOut good failureBit collisionBits outcomeBits addressBits nibble counted tally nibbles anyAt15 newEcr newEphsr autoRelease sendHead ifUsable ifSendable finish serve stepOf runOf
 usedReplies = run used powerUp .replies
 
 -- what is written of packet 0 after these inputs, from address 0 on
@@ -122,7 +119,7 @@ writtenUpTo w inputs = allMarked w 0 0 (writtenBy 24 inputs powerUp unwritten)
 
 -- A send writes its status word, at addresses 0 and 1, which no data write had reached (its packet is given back behind it, which forgets nothing); a stored frame writes all 70 bytes that its count counts, and no more.
 pub used-written : (writtenUpTo 1 toSend ≡ false) × (writtenUpTo 2 toSent ≡ true) × (writtenUpTo 70 toFrame ≡ true) × (writtenUpTo 71 toFrame ≡ false)
-unfolding bit setBit clearBit flag lowByte highByte wordOf wordAt member some? owned unless freeBelow firstEmpty above ascends allBelow apart noneOwned pagesGood laidGood queueGood queuesGood numbersGood requestGood formed fit place getBytes putBytes decode perform due settle address advance next ifPacket against oddFixed past ifOpen valueOf readData writeData registerAt misplaced lanesAt taken merged width bytesOf headOf newRcr writeRcr forgotten writeTcr lowOnly readRegister writeRegister access crcBit crcBits crcFrom crc hash sameBytes broadcast group inTable accepted dataLength countOf pagesFor needed valueFor dropped judge groupBits frameStatus trailer image after arrive inLimits byteCount sendLength padded controlByte putOut good failureBit collisionBits outcomeBits addressBits nibble counted tally nibbles anyAt15 newEcr newEphsr autoRelease sendHead ifUsable ifSendable finish serve stepOf allMarked readsMarked minded allMinded marked anew commandMarks writeMarks accessMarks frameMarks sendMarks inputMarks written
+unfolding bit setBit clearBit flag lowByte highByte wordOf wordAt member some? owned unless freeBelow firstEmpty above ascends allBelow apart noneOwned pagesGood laidGood queueGood queuesGood numbersGood requestGood formed fit place getBytes putBytes decode perform due settle address advance next ifPacket against oddFixed past ifOpen valueOf readData writeData registerAt misplaced lanesAt taken merged width bytesOf headOf newRcr writeRcr forgotten writeTcr lowOnly readRegister writeRegister access crcBit crcBits crcFrom crc hash mirror fcsWord fourBytes sameBytes badCrc broadcast group inTable accepted dataLength countOf pagesFor needed valueFor dropped judge groupBits frameStatus trailer image after arrive inLimits byteCount sendLength appends padded ended onWire controlByte putOut good failureBit collisionBits outcomeBits addressBits nibble counted tally nibbles anyAt15 newEcr newEphsr autoRelease sendHead ifUsable ifSendable finish serve stepOf allMarked readsMarked minded allMinded marked anew commandMarks writeMarks accessMarks frameMarks sendMarks inputMarks written
 used-written = (refl, refl, refl, refl)
 
 -- Its send reads only written bytes,
@@ -132,8 +129,8 @@ used-minds = all-minded 24 used powerUp unwritten used-test
 abbrev answer : ℕ → Reply
 answer v = record { number = 0; value = v }
 
--- all is done: the send puts out 6 bytes, the frame is stored (value 0), and what is drained is its status 4000h, its count 70 and its first word FFFFh;
-pub used-done : usedReplies ≡ replicate 15 done ++ (answer 6 ∷ done ∷ done ∷ answer 0x4000 ∷ answer 70 ∷ answer 0xffff ∷ done ∷ [])
+-- all is done: the send puts out 6 bytes and their FCS, the frame is stored (value 0), and what is drained is its status 4000h, its count 70 and its first word FFFFh;
+pub used-done : usedReplies ≡ replicate 15 done ++ (answer 10 ∷ done ∷ done ∷ answer 0x4000 ∷ answer 70 ∷ answer 0xffff ∷ done ∷ [])
 unfolding usedReplies
 used-done = refl
 

@@ -15,7 +15,7 @@ use Rattle.rules.specs.Receive.{Frame, Arrival, stored, disabled, notAccepted, 
 use Rattle.rules.specs.Send.{Send, sendLength, good, autoRelease}
 use Rattle.rules.specs.Step.{Input, driver, frame, sent, stepOf}
 use Rattle.lists.specs.Each.{Each}
-use Rattle.laws.specs.Head.{byteAt, headPages, headCount}
+use Rattle.laws.specs.Head.{headCount, headControl}
 use Rattle.laws.specs.Sendable.{Reaches}
 
 -- is the byte of this packet at this address written
@@ -102,10 +102,6 @@ inputMarks (sent s out) c m = sendMarks s c m
 -- what is written after an input, of a chip with n packets: a refusal writes nothing
 unfoldable pub written : ℕ → Input → Chip → Marks → Marks
 written n i c m = cond (eqb (stepOf n i c .reply .number) 0) (inputMarks i c m) m
-
--- the byte at c − 1 of the packet at the head of TX
-abbrev pub headControl : Chip → ℕ
-headControl c = byteAt (headPages c) (c .memory) (headCount c - 1)
 
 -- What a send reads of that packet is written. "A send that gets past refusal 12 reads bytes 2 and 3, and, where it is done, byte c − 1 and the data by its length"
 -- (which is not the byte at c − 2 behind data of even length).

@@ -10,6 +10,7 @@ use lib.Dec.{eqb}
 use lib.ListN.{length, getD}
 use lib.Pow.{mod-mod-pow, field}
 use Rattle.rules.specs.Bits.{bit, wordOf}
+use Rattle.rules.specs.Crc.{fourBytes}
 use Rattle.rules.specs.Receive.{sameBytes, inTable}
 use Rattle.sets.specs.Bits.{bit-shr}
 use Rattle.state.specs.View.{word, bytes, registersIn}
@@ -50,6 +51,28 @@ unfolding Written sameBytes
 six-bytes l x y z =
     written-out 6 (λ (m : List ℕ). sameBytes m (bytes x (bytes y (bytes z []))) ≡ Pair (getD m 0 0) (getD m 1 0) x && (Pair (getD m 2 0) (getD m 3 0) y && Pair (getD m 4 0) (getD m 5 0) z))
     (λ a b c d e f. and-twos (eqb a (x % 256)) (eqb b (x / 256)) (eqb c (y % 256)) (eqb d (y / 256)) (eqb e (z % 256)) (eqb f (z / 256))) l
+
+-- Four bytes are those of a number where each two are those of its half.
+and-four : (a b c d : Bool) → a && (b && (c && (d && true))) ≡ (a && b) && (c && d)
+and-four false b c d = refl
+and-four true false c d = refl
+and-four true true false d = refl
+and-four true true true false = refl
+and-four true true true true = refl
+
+low : (q y : ℕ) → y < 256 → (256 * q + y) % 256 ≡ y
+low q y h = omega arith
+
+pub four-bytes : (l : List ℕ) (x : ℕ) → x < 2 ^ 32 → length l ≡ 4 → sameBytes l (fourBytes x) ≡ Pair (getD l 0 0) (getD l 1 0) (x % 65536) && Pair (getD l 2 0) (getD l 3 0) (x / 65536)
+unfolding Written sameBytes fourBytes
+four-bytes l x h =
+    let first : x % 65536 % 256 ≡ x % 256 = omega arith in
+    let halves : x / 2 ^ 8 ≡ 256 * (x / 65536) + x % 65536 / 256 = omega arith in
+    let second : x % 65536 / 256 ≡ x / 2 ^ 8 % 256 = sym (rw halves (low (x / 65536) (x % 65536 / 256) (omega arith))) in
+    let high : x / 65536 / 256 ≡ x / 2 ^ 24 = omega arith in
+    let fourth : x / 65536 / 256 ≡ x / 2 ^ 24 % 256 = high ∙ omega arith in
+    written-out 4 (λ (m : List ℕ). sameBytes m (fourBytes x) ≡ Pair (getD m 0 0) (getD m 1 0) (x % 65536) && Pair (getD m 2 0) (getD m 3 0) (x / 65536))
+    (λ a b c d. rw (first, second, fourth) (and-four (eqb a (x % 256)) (eqb b (x / 2 ^ 8 % 256)) (eqb c (x / 2 ^ 16 % 256)) (eqb d (x / 2 ^ 24 % 256)))) l
 
 -- A bit of a byte is a bit of its word.
 bit-of-low : (k x : ℕ) → k < 8 → bit k (x % 256) ≡ bit k x

@@ -60,12 +60,12 @@ verdict-back NoRoom = refl
 pub verdict-once : (a b : Verdict) → arrivalOf a ≡ arrivalOf b → a ≡ b
 verdict-once a b e = sym (verdict-back a) ∙ ap verdictOf e ∙ verdict-back b
 
-abbrev pub frameOf : List ℕ → Bool → Bool → Frame
-frameOf bytes badCrc alignment = record { bytes = bytes; badCrc = badCrc; alignment = alignment }
+abbrev pub frameOf : List ℕ → Bool → Frame
+frameOf bytes alignment = record { bytes = bytes; alignment = alignment }
 
 -- what becomes of a frame that is not stored, the same of every frame
 abbrev pub turnedAway : Arrival → Chip → Effect
-turnedAway a c = doneWith (valueFor a) (after a (frameOf [] false false) c)
+turnedAway a c = doneWith (valueFor a) (after a (frameOf [] false) c)
 
 pub any-frame : (a : Arrival) → isStored a ≡ false → (f : Frame) (c : Chip) → turnedAway a c ≡ doneWith (valueFor a) (after a f c)
 unfolding after

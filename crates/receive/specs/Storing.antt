@@ -1,14 +1,16 @@
 -- What is known of a frame that is to be stored, in both layouts: it has a number, pages and a place in RX.
 use mathlib.Core.Path.{_≡_, refl, ap, sym, _∙_}
+use mathlib.Core.Bool.{false}
 use mathlib.Core.List.{List, [], _∷_, _++_}
 use Prim.Native.Nat.{ℕ, _/_, _≤_, _<_}
 use native.Mathlib.Omega.{arith}
 use lib.ListN.{length, set, take}
+use Rattle.rules.specs.Bits.{bit}
 use Rattle.rules.specs.Lists.{member, firstEmpty}
 use Rattle.rules.specs.Chip.{Registers, Layout, freeFor}
 use Rattle.rules.specs.Fields.{setPages, setRx, inPool}
 use Rattle.rules.specs.Packet.{putBytes}
-use Rattle.rules.specs.Receive.{Frame, dataLength, countOf, pagesFor, needed, image, stow}
+use Rattle.rules.specs.Receive.{Frame, badCrc, dataLength, countOf, pagesFor, needed, image, stow}
 use Rattle.lists.specs.Facts.{if-not}
 use Rattle.lists.specs.Each.{each-member}
 use Rattle.wellformed.specs.Count.{distinct-few}
@@ -48,6 +50,10 @@ module _ {l : Layout} {w s q : List ℕ} {f : Frame} (t : StowableOf l w s q f) 
 
   fits : frames.Storable (registersIn w) (word w 4 / 256) f
   fits = frames.storable (registersIn w) (word w 4 / 256) f (t .told)
+
+  -- its CRC was judged, or control bit 14 is set
+  pub judged-good : bit 14 (word w 14) ≡ false → badCrc (f .bytes) ≡ false
+  judged-good = frames.stored-good fits
 
   pub data-less : n ≤ len
   data-less = data-short (registersIn w) len

@@ -6,16 +6,16 @@ use state::flags;
 ghost use mathlib.Core.Path.{_≡_};
 ghost use mathlib.Core.Bool.{_&&_, _||_};
 ghost use mathlib.Core.List.{[]};
-ghost use Prim.Native.Nat.{_/_, _%_, _<_};
+ghost use Prim.Native.Nat.{_/_, _%_, _^_, _<_};
 ghost use lib.Dec.{eqb};
 ghost use lib.ListN.{length};
 ghost use Rattle.rules.specs.Bits.{bit};
-ghost use Rattle.rules.specs.Crc.{hash};
+ghost use Rattle.rules.specs.Crc.{mirror, hash};
 ghost use Rattle.rules.specs.Receive.{sameBytes, broadcast, group, inTable, accepted, groupBits};
 ghost use Rattle.state.specs.View.{word, bytes, registersIn};
 
 // Are the two bytes those of the word, lower first?
-fn is_pair(low: u8, high: u8, x: u16) -> bool
+pub fn is_pair(low: u8, high: u8, x: u16) -> bool
     ensures { λ b. ⌜ b ≡ eqb low (x % 256) && eqb high (x / 256) ⌝ }
 {
     bits::word(low, high) == x
@@ -61,6 +61,25 @@ pub fn is_group(address: &[u8]) -> bool
     bits::byte_is_set(address[0], flags::GROUP)
 }
 
+// The top six bits of a remainder: the six lowest of it as `crc` holds it, in the other order.
+fn top_six(r: u32) -> u8
+    ensures { λ h. ⌜ (h ≡ mirror 32 r / 2 ^ 26) × (h < 64) ⌝ }
+{
+    (r % 2 * 32
+        + r / 2 % 2 * 16
+        + r / 4 % 2 * 8
+        + r / 8 % 2 * 4
+        + r / 16 % 2 * 2
+        + r / 32 % 2) as u8
+}
+
+// The six bits by which a group address is looked up.
+fn hash_of(address: &[u8]) -> u8
+    ensures { λ h. ⌜ (h ≡ hash (now (address .entry))) × (h < 64) ⌝ }
+{
+    top_six(crc::remainder(address))
+}
+
 // The upper three bits of the hash choose the table byte, the lower three the bit: the upper two the word, the lower four the bit in it.
 fn in_table(words: &[u16], hash: u8) -> bool
     requires { ⌜ (length (now words) ≡ 32) × (hash < 64) ⌝ }
@@ -80,7 +99,7 @@ fn is_wanted_group(address: &[u8], words: &[u16]) -> bool
     if bits::is_set(words[RCR], flags::ALMUL) {
         return true;
     }
-    in_table(words, crc::hash_of(address))
+    in_table(words, hash_of(address))
 }
 
 // All with PRMS; broadcast; a group address that is wanted; the station address.
@@ -111,5 +130,5 @@ pub fn group_bits(address: &[u8]) -> u16
     if is_broadcast(address) {
         return 0;
     }
-    2 * crc::hash_of(address) as u16 + (1 << flags::MULTCAST)
+    2 * hash_of(address) as u16 + (1 << flags::MULTCAST)
 }

@@ -1,6 +1,7 @@
 // What becomes of a frame: the first that holds.
 use crate::Verdict;
 use crate::address::is_accepted;
+use crate::check::is_bad;
 use crate::length::LONGEST_STORED;
 use crate::length::SHORTEST;
 use crate::length::data_length;
@@ -14,31 +15,33 @@ ghost use mathlib.Core.Bool.{_||_};
 ghost use Prim.Native.Nat.{_+_, _/_, _%_, _≤_};
 ghost use lib.Dec.{ltb};
 ghost use lib.ListN.{length};
-ghost use Rattle.rules.specs.Receive.{dropped, needed, judge};
+ghost use Rattle.rules.specs.Receive.{badCrc, dropped, needed, judge};
 ghost use Rattle.state.specs.View.{word, registersIn};
 ghost use Rattle.receive.specs.Arrivals.{arrivalOf, frameOf, withControl};
 
-// Flagged or under 64 bytes.
-fn is_flawed(frame: &[u8], badcrc: bool, alignment: bool) -> bool
-    ensures { λ b. ⌜ b ≡ badcrc || alignment || ltb (length (now (frame .entry))) 64 ⌝ }
+// Flagged or under 64 bytes. The CRC is asked last: it goes through the whole frame.
+fn is_flawed(frame: &[u8], alignment: bool) -> bool
+    requires { ⌜ 18 ≤ length (now frame) ⌝ }
+    ensures { λ b. ⌜ b ≡ badCrc (now (frame .entry)) || alignment || ltb (length (now (frame .entry))) 64 ⌝ }
 {
-    if badcrc {
-        return true;
-    }
     if alignment {
         return true;
     }
-    frame.len() < SHORTEST
+    if frame.len() < SHORTEST {
+        return true;
+    }
+    is_bad(frame)
 }
 
 // Such a frame is dropped unless RCV_BAD is set.
-fn is_dropped(control: u16, frame: &[u8], badcrc: bool, alignment: bool) -> bool
-    ensures { λ b. ⌜ b ≡ dropped (withControl control) (frameOf (now (frame .entry)) badcrc alignment) ⌝ }
+fn is_dropped(control: u16, frame: &[u8], alignment: bool) -> bool
+    requires { ⌜ 18 ≤ length (now frame) ⌝ }
+    ensures { λ b. ⌜ b ≡ dropped (withControl control) (frameOf (now (frame .entry)) alignment) ⌝ }
 {
-    if is_flawed(frame, badcrc, alignment) {
-        return !bits::is_set(control, flags::RCV_BAD);
+    if bits::is_set(control, flags::RCV_BAD) {
+        return false;
     }
-    false
+    is_flawed(frame, alignment)
 }
 
 // Fewer pages are free than the frame needs together with those reserved for transmit, the low byte of their word.
@@ -51,9 +54,9 @@ fn is_full(words: &[u16], len: usize) -> bool
 }
 
 // By the words alone: MIR's high byte counts the free pages.
-pub fn judged(words: &[u16], frame: &[u8], badcrc: bool, alignment: bool) -> Verdict
+pub fn judged(words: &[u16], frame: &[u8], alignment: bool) -> Verdict
     requires { ⌜ (length (now words) ≡ 32) × (18 ≤ length (now frame)) ⌝ }
-    ensures { λ v. ⌜ arrivalOf v ≡ judge (registersIn (now (words .entry))) (word (now (words .entry)) 4 / 256) (frameOf (now (frame .entry)) badcrc alignment) ⌝ }
+    ensures { λ v. ⌜ arrivalOf v ≡ judge (registersIn (now (words .entry))) (word (now (words .entry)) 4 / 256) (frameOf (now (frame .entry)) alignment) ⌝ }
 {
     if !bits::is_set(words[RCR], flags::RXEN) {
         return Verdict::Disabled;
@@ -65,7 +68,7 @@ pub fn judged(words: &[u16], frame: &[u8], badcrc: bool, alignment: bool) -> Ver
     if LONGEST_STORED < len {
         return Verdict::TooLong;
     }
-    if is_dropped(words[CONTROL], frame, badcrc, alignment) {
+    if is_dropped(words[CONTROL], frame, alignment) {
         return Verdict::Bad;
     }
     if is_full(words, len) {

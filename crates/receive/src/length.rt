@@ -1,13 +1,16 @@
 // How much is stored of a frame, in how many pages, and its status.
 use crate::address::group_bits;
 use crate::address::is_broadcast;
+use crate::check::is_stored_bad;
 use bits::flag_of;
 use state::PAGE_BYTES;
 use state::flags;
 ghost use mathlib.Core.Path.{_≡_};
+ghost use mathlib.Core.Bool.{false};
 ghost use Prim.Native.Nat.{_≤_};
 ghost use lib.ListN.{length};
-ghost use Rattle.rules.specs.Receive.{dataLength, countOf, pagesFor, frameStatus};
+ghost use Rattle.rules.specs.Bits.{bit};
+ghost use Rattle.rules.specs.Receive.{badCrc, dataLength, countOf, pagesFor, frameStatus};
 ghost use Rattle.receive.specs.Arrivals.{frameOf, withRcr};
 
 // The sizes of a frame, with its FCS, by the standard; and the longest that the chip stores.
@@ -47,19 +50,21 @@ pub fn pages_for(n: usize) -> u32
 }
 
 // 15 alignment, 14 broadcast, 13 bad CRC, 12 odd n, 11 frame with FCS over 1,518 bytes, 10 under 64; and what there is to say of a group address.
-pub fn status_of(frame: &[u8], n: usize, badcrc: bool, alignment: bool) -> u16
-    requires { ⌜ 18 ≤ length (now frame) ⌝ }
-    ensures { λ s. ⌜ s ≡ frameStatus (frameOf (now (frame .entry)) badcrc alignment) n ⌝ }
+// A frame that is stored has a bad CRC only with RCV_BAD set.
+pub fn status_of(control: u16, frame: &[u8], n: usize, alignment: bool) -> u16
+    requires { ⌜ (18 ≤ length (now frame)) × (bit 14 control ≡ false → badCrc (now frame) ≡ false) ⌝ }
+    ensures { λ s. ⌜ s ≡ frameStatus (frameOf (now (frame .entry)) alignment) n ⌝ }
 {
     let len = frame.len();
     let group = group_bits(&frame[0..6]);
     let broadcast = flag_of(is_broadcast(&frame[0..6]));
+    let bad = flag_of(is_stored_bad(control, frame));
     let odd = flag_of(bits::is_odd(n));
     let long = flag_of(LONGEST < len);
     let short = flag_of(len < SHORTEST);
     let upper = (1 << flags::ALGNERR) * flag_of(alignment)
         + (1 << flags::BROADCAST) * broadcast
-        + (1 << flags::BADCRC) * flag_of(badcrc);
+        + (1 << flags::BADCRC) * bad;
     upper
         + (1 << flags::ODDFRM) * odd
         + (1 << flags::TOOLNG) * long

@@ -1,5 +1,6 @@
 // A frame arrives.
 mod address; // address.rt: the destination address, and whether it is accepted
+mod check; // check.rt: the frame check sequence
 mod length; // length.rt: how much is stored of a frame, and its status
 mod judge; // judge.rt: the verdict
 mod stow; // stow.rt: a frame that is stored
@@ -81,25 +82,24 @@ pub fn turned_away(words: &mut [u16], verdict: Verdict) -> Answer
     }
 }
 
-// A frame arrives at a chip that is well formed: its bytes with FCS, and two flags.
+// A frame arrives at a chip that is well formed: its bytes with FCS, and the flag alignment.
 pub fn arrived(
     words: &mut [u16],
     sets: &mut [u32],
     queues: &mut [u8],
     memory: &mut [u8],
     frame: &[u8],
-    bad_crc: bool,
     alignment: bool,
 ) -> Answer
     requires { ⌜ Ready (now words) (now sets) (now queues) × (length (now memory) ≡ 6144) ⌝ }
-    ensures { λ a. ⌜ Makes (arrive (frameOf (now (frame .entry)) «bad_crc» alignment) (view (now (words .entry)) (now (sets .entry)) (now (queues .entry)) (now (memory .entry)))) a (now (words .exit)) (now (sets .exit)) (now (queues .exit)) (now (memory .exit)) ⌝ }
+    ensures { λ a. ⌜ Makes (arrive (frameOf (now (frame .entry)) alignment) (view (now (words .entry)) (now (sets .entry)) (now (queues .entry)) (now (memory .entry)))) a (now (words .exit)) (now (sets .exit)) (now (queues .exit)) (now (memory .exit)) ⌝ }
 {
     if frame.len() < 18 {
         return Answer::OutsideLimits;
     }
-    let verdict = judge::judged(words, frame, bad_crc, alignment);
+    let verdict = judge::judged(words, frame, alignment);
     if !is_stored(verdict) {
         return turned_away(words, verdict);
     }
-    stow::stowed(words, sets, queues, memory, frame, bad_crc, alignment)
+    stow::stowed(words, sets, queues, memory, frame, alignment)
 }

@@ -5,6 +5,7 @@ use crate::length::pages_for;
 use crate::length::status_of;
 use sets::Packet;
 use state::Answer;
+use state::CONTROL;
 use state::RCR;
 ghost use mathlib.Core.Path.{_≡_};
 ghost use lib.ListN.{length};
@@ -21,16 +22,15 @@ pub fn stowed(
     queues: &mut [u8],
     memory: &mut [u8],
     frame: &[u8],
-    badcrc: bool,
     alignment: bool,
 ) -> Answer
-    requires { ⌜ Stowable (now words) (now sets) (now queues) (frameOf (now frame) badcrc alignment) × (length (now memory) ≡ 6144) ⌝ }
-    ensures { λ a. ⌜ Makes (doneWith 0 (stow (frameOf (now (frame .entry)) badcrc alignment) (view (now (words .entry)) (now (sets .entry)) (now (queues .entry)) (now (memory .entry))))) a (now (words .exit)) (now (sets .exit)) (now (queues .exit)) (now (memory .exit)) ⌝ }
+    requires { ⌜ Stowable (now words) (now sets) (now queues) (frameOf (now frame) alignment) × (length (now memory) ≡ 6144) ⌝ }
+    ensures { λ a. ⌜ Makes (doneWith 0 (stow (frameOf (now (frame .entry)) alignment) (view (now (words .entry)) (now (sets .entry)) (now (queues .entry)) (now (memory .entry))))) a (now (words .exit)) (now (sets .exit)) (now (queues .exit)) (now (memory .exit)) ⌝ }
 {
     let n = data_length(words[RCR], frame.len());
+    let status = status_of(words[CONTROL], frame, n, alignment);
     let number = Packet(sets::lowest_unallocated(sets) as u8);
     let pages = pool::grant(words, sets, number, pages_for(n));
-    let status = status_of(frame, n, badcrc, alignment);
     packet::store_frame(memory, pages, status, count_of(n), frame, n);
     pool::join_rx(words, queues, number);
     Answer::Done(0)

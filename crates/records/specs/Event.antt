@@ -13,6 +13,6 @@ abbrev pub meant : Event → List ℕ → rules.Event
 meant (Read w o) b = access (read (widthOf w) o)
 meant (Write w o v) b = access (write (widthOf w) o v)
 meant (Wire c) b = wire c (drop 2 b)
-meant (Ends crc align) b = frameEnds crc align
+meant (Ends align) b = frameEnds align
 meant (Send o c d) b = send (record { outcome = o; collisions = c; deferral = d })
 meant Unknown b = unknown

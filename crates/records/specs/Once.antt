@@ -30,7 +30,7 @@ eventBack : rules.Event → Event
 eventBack (access (read w o)) = Read (widthBack w) o
 eventBack (access (write w o v)) = Write (widthBack w) o v
 eventBack (wire c l) = Wire c
-eventBack (frameEnds crc align) = Ends crc align
+eventBack (frameEnds align) = Ends align
 eventBack (send s) = Send (s .outcome) (s .collisions) (s .deferral)
 eventBack unknown = Unknown
 
@@ -41,7 +41,7 @@ event-back (Read width.Word o) bytes = refl
 event-back (Write width.Byte o v) bytes = refl
 event-back (Write width.Word o v) bytes = refl
 event-back (Wire c) bytes = refl
-event-back (Ends crc align) bytes = refl
+event-back (Ends align) bytes = refl
 event-back (Send o c d) bytes = refl
 event-back Unknown bytes = refl
 

@@ -6,12 +6,12 @@ ghost use Rattle.rules.specs.Bench.{eventOf};
 ghost use Rattle.rules.specs.Watch.{isSend};
 ghost use Rattle.records.specs.Event.{meant};
 
-// Width, offset and value of an access, the count of wire bytes, the flags bad CRC and alignment, and a send's outcome, collisions and deferral.
+// Width, offset and value of an access, the count of wire bytes, the flag alignment, and a send's outcome, collisions and deferral.
 pub enum Event {
     Read(Width, u8),
     Write(Width, u8, u16),
     Wire(u8),
-    Ends(bool, bool),
+    Ends(bool),
     Send(u8, u8, u8),
     Unknown,
 }
@@ -27,10 +27,7 @@ pub fn event_of(bytes: &[u8]) -> Event
         3 => Event::Write(Width::Byte, bytes[1], bits::word(bytes[2], bytes[3])),
         4 => Event::Write(Width::Word, bytes[1], bits::word(bytes[2], bytes[3])),
         5 => Event::Wire(bytes[1]),
-        6 => Event::Ends(
-            bits::byte_is_set(bytes[1], 0),
-            bits::byte_is_set(bytes[1], 1),
-        ),
+        6 => Event::Ends(bits::byte_is_set(bytes[1], 1)),
         7 => Event::Send(bytes[1], bytes[2], bytes[3]),
         _ => Event::Unknown,
     }

@@ -1,8 +1,8 @@
--- Short laws beside the definitions, one for each wrong model of must-fail/: four of document 01's plausible slips, and others. (The other two slips, adjacent pages and bytes after a frame, are
+-- Short laws beside the definitions, for the wrong models of must-fail/: four of document 01's plausible slips, those of document 02's W4, and others. (The other two slips, adjacent pages and bytes after a frame, are
 -- edits of `packet`. An edit reaches its own crate only, so these laws stand here and not in `laws`.)
 use mathlib.Core.Path.{_≡_, refl}
 use mathlib.Core.Bool.{Bool, true, false, cond}
-use mathlib.Core.List.{List, [], _∷_}
+use mathlib.Core.List.{List, [], _∷_, _++_}
 use Prim.Native.Nat.{ℕ, zero, suc, _*_, _≤_, _<_}
 use native.Mathlib.Omega.{arith}
 use borrow.Author.Tests.{le-leb, lt-ltb, le-ltb}
@@ -15,11 +15,11 @@ use Rattle.rules.specs.Fields.{setRx, inPool}
 use Rattle.rules.specs.Answers.{Effect, refuse}
 use Rattle.rules.specs.Mmu.{perform, allocate, reset, removeAndRelease, resetTx, lowestNumber, grant, due, settle, freed, giveBack}
 use Rattle.rules.specs.Data.{against, ifOpen}
-use Rattle.rules.specs.Crc.{crcBit, crcBits, crcFrom, crc, hash}
+use Rattle.rules.specs.Crc.{crcBit, crcBits, crcFrom, crc, hash, mirror, fcsWord, fourBytes, fcs}
 use Rattle.rules.specs.Tests.{ascends, allBelow, apart, noneOwned, pagesGood, laidGood, queueGood, queuesGood, numbersGood, requestGood, formed, fit}
 use Rattle.rules.specs.Registers.{byte, word, read, write, misplaced, registerAt, lanesAt, taken, headOf, lowOnly, softReset, readRegister, writeRegister, access}
-use Rattle.rules.specs.Receive.{Frame, Arrival, stored, disabled, notAccepted, tooLong, bad, noRoom, countOf, needed, image, after}
-use Rattle.rules.specs.Send.{Send, byteCount, good, autoRelease, tally, counted, nibble, sendHead, ifUsable, ifSendable}
+use Rattle.rules.specs.Receive.{Frame, sameBytes, badCrc, Arrival, stored, disabled, notAccepted, tooLong, bad, noRoom, countOf, needed, image, after}
+use Rattle.rules.specs.Send.{Send, byteCount, appends, padded, ended, onWire, good, autoRelease, tally, counted, nibble, sendHead, ifUsable, ifSendable}
 use Rattle.rules.specs.Step.{driver, serve, stepOf, runOf, history}
 
 -- Where nothing waits, pages that are given back are free, and that is all.
@@ -119,6 +119,31 @@ count-stored f n h = word-again (countOf n) h
 pub hash-in-order : hash (0x01 ∷ 0 ∷ 0 ∷ 0 ∷ 0 ∷ 0 ∷ []) ≡ 0b100111
 unfolding hash crc crcFrom crcBits crcBit
 hash-in-order = refl
+
+-- The frame check sequence of document 02's W4. The standard's check value, of "123456789": the complement of the remainder, its bit 31 first on the wire.
+pub check-value : fcs (0x31 ∷ 0x32 ∷ 0x33 ∷ 0x34 ∷ 0x35 ∷ 0x36 ∷ 0x37 ∷ 0x38 ∷ 0x39 ∷ []) ≡ 0x26 ∷ 0x39 ∷ 0xf4 ∷ 0xcb ∷ []
+unfolding fourBytes fcsWord mirror crc crcFrom crcBits crcBit
+check-value = refl
+
+-- On arrival it is that of the bytes before it: of none it is four zeros.
+pub last-four-apart : badCrc (0 ∷ 0 ∷ 0 ∷ 0 ∷ []) ≡ false
+unfolding badCrc sameBytes fourBytes fcsWord mirror crc crcFrom crcBits crcBit
+last-four-apart = refl
+
+-- It is appended without NOCRC; and with it where bit 4 of the control byte asks for it.
+pub asked-for-by-packet : (appends 0x0000 0x00 ≡ true) × (appends 0x0100 0x10 ≡ true) × (appends 0x0100 0x00 ≡ false)
+unfolding appends bit
+asked-for-by-packet = (refl, refl, refl)
+
+-- It is that of the padded data.
+pub over-the-padding : (tcr control : ℕ) (bytes : List ℕ) → appends tcr control ≡ true → onWire tcr control bytes ≡ padded true tcr bytes ++ fcs (padded true tcr bytes)
+unfolding onWire ended
+over-the-padding tcr control bytes e = rw e refl
+
+-- The shortest frame, padded, has 64 bytes with its FCS, and 64 without one.
+pub padded-to-64 : (x : ℕ) → (length (onWire 0x0080 0 (x ∷ [])) ≡ 64) × (length (onWire 0x0180 0 (x ∷ [])) ≡ 64)
+unfolding onWire ended padded appends bit fourBytes
+padded-to-64 x = (refl, refl)
 
 -- A failed send after one collision and with no deferral counts in no nibble.
 pub failed-single : (s : Send) (ecr : ℕ) → s .collisions ≡ 1 → s .deferral ≡ 0 → tally false s ecr ≡ nibble 0 ecr ∷ nibble 1 ecr ∷ nibble 2 ecr ∷ nibble 3 ecr ∷ []

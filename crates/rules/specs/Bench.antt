@@ -16,8 +16,8 @@ pub data Event : Type 0 where
   access : Access → Event
   -- byte 1's count, and the wire bytes behind it
   wire : ℕ → List ℕ → Event
-  -- the two flags: bad CRC, alignment
-  frameEnds : Bool → Bool → Event
+  -- the flag alignment
+  frameEnds : Bool → Event
   send : Send → Event
   unknown : Event
 
@@ -28,7 +28,7 @@ at bytes k = getD bytes k 0
 abbrev pub valueIn : List ℕ → ℕ
 valueIn bytes = wordOf (at bytes 2) (at bytes 3)
 
--- "Byte 0: 1 read byte, 2 read word, 3 write byte, 4 write word (offset, value low, high); 5 wire bytes", "6 frame ends", "7 send (outcome, collisions, deferral)"; "Unused bytes are ignored."
+-- "Byte 0: 1 read byte, 2 read word, 3 write byte, 4 write word (offset, value low, high); 5 wire bytes", "6 frame ends (byte 1: .. 1 alignment)", "bit 0 .. ignored" (W4), "7 send (outcome, collisions, deferral)"; "Unused bytes are ignored."
 unfoldable pub eventOf : List ℕ → Event
 eventOf b =
     cond (eqb (at b 0) 1) (access (read byte (at b 1)))
@@ -36,7 +36,7 @@ eventOf b =
     (cond (eqb (at b 0) 3) (access (write byte (at b 1) (valueIn b)))
     (cond (eqb (at b 0) 4) (access (write word (at b 1) (valueIn b)))
     (cond (eqb (at b 0) 5) (wire (at b 1) (drop 2 b))
-    (cond (eqb (at b 0) 6) (frameEnds (bit 0 (at b 1)) (bit 1 (at b 1)))
+    (cond (eqb (at b 0) 6) (frameEnds (bit 1 (at b 1)))
     (cond (eqb (at b 0) 7) (send (record { outcome = at b 1; collisions = at b 2; deferral = at b 3 })) unknown))))))
 
 -- the chip, the wire bytes gathered so far, and the output buffer
@@ -45,9 +45,9 @@ pub record Bench : Type 0 where
   pub gathered : List ℕ
   pub output : List ℕ
 
--- it "starts from power-up"; the output buffer has 2,048 bytes, so 15 is never given
+-- it "starts from power-up"; the output buffer has 2,052 bytes, so 15 is never given
 abbrev pub startedOn : Chip → Bench
-startedOn c = record { chip = c; gathered = []; output = replicate 2048 0 }
+startedOn c = record { chip = c; gathered = []; output = replicate 2052 0 }
 
 abbrev pub started : Bench
 started = startedOn powerUp
@@ -70,7 +70,7 @@ unfoldable pub answer : Event → Bench → Answered
 answer (access a) b = told (step (driver a) (b .chip)) (b .gathered) (b .output)
 answer (wire count bytes) b = gather count bytes b
 -- "gathering emptied whatever the answer"
-answer (frameEnds crc align) b = told (step (frame (record { bytes = b .gathered; badCrc = crc; alignment = align })) (b .chip)) [] (b .output)
+answer (frameEnds align) b = told (step (frame (record { bytes = b .gathered; alignment = align })) (b .chip)) [] (b .output)
 -- a send is lent the bench's buffer
 answer (send s) b = let t = step (sent s (b .output)) (b .chip) in told t (b .gathered) (t .output)
 -- "record cut short or of unknown kind": "A 17 prints its line and the run goes on."

@@ -1,21 +1,20 @@
--- Document 01, "A frame arrives".
+-- Document 01, "A frame arrives"; document 02, W4: the frame's own FCS tells whether its CRC is bad.
 use mathlib.Core.Bool.{Bool, true, false, cond, not, _&&_, _||_}
 use mathlib.Core.List.{List, [], _∷_, _++_}
 use Prim.Native.Nat.{ℕ, _+_, _-_, _*_, _/_, _%_, _^_}
 use lib.Dec.{eqb, ltb}
-use lib.ListN.{length, getD, take}
+use lib.ListN.{length, getD, take, drop}
 use Rattle.rules.specs.Bits.{bit, setBit, flag, lowByte, highByte}
 use Rattle.rules.specs.Chip.{Registers, Chip, free}
 use Rattle.rules.specs.Fields.{setRcr, setOverrun, setRx, inRegisters, inPool, inMemory}
 use Rattle.rules.specs.Answers.{Effect, doneWith, refuse}
 use Rattle.rules.specs.Packet.{putBytes}
 use Rattle.rules.specs.Mmu.{lowestNumber, allot}
-use Rattle.rules.specs.Crc.{hash}
+use Rattle.rules.specs.Crc.{hash, fcs}
 
--- "Input: bytes with FCS, and two flags, bad CRC and alignment."
+-- "Input: bytes with FCS, and" a flag, alignment; "the bad CRC flag is no longer given but found from the frame" (W4)
 pub record Frame : Type 0 where
   pub bytes : List ℕ
-  pub badCrc : Bool
   pub alignment : Bool
 
 abbrev pub destination : Frame → List ℕ
@@ -27,6 +26,10 @@ sameBytes [] [] = true
 sameBytes [] (y ∷ ys) = false
 sameBytes (x ∷ xs) [] = false
 sameBytes (x ∷ xs) (y ∷ ys) = eqb x y && sameBytes xs ys
+
+-- bad CRC: the last four bytes are not the FCS of the rest
+unfoldable pub badCrc : List ℕ → Bool
+badCrc bytes = let n = length bytes - 4 in not (sameBytes (drop n bytes) (fcs (take n bytes)))
 
 -- broadcast is six bytes FFh; a group address has its first wire bit set
 unfoldable pub broadcast : List ℕ → Bool
@@ -79,7 +82,7 @@ valueFor noRoom = 5
 
 -- "flagged or under 64 bytes with control bit 14 clear"
 unfoldable pub dropped : Registers → Frame → Bool
-dropped r f = (f .badCrc || f .alignment || ltb (length (f .bytes)) 64) && not (bit 14 (r .control))
+dropped r f = (badCrc (f .bytes) || f .alignment || ltb (length (f .bytes)) 64) && not (bit 14 (r .control))
 
 -- "The answer's value is the first that holds"; freePages is how many are free
 unfoldable pub judge : Registers → ℕ → Frame → Arrival
@@ -96,7 +99,7 @@ groupBits a = cond (group a && not (broadcast a)) (2 * hash a + 1) 0
 
 unfoldable pub frameStatus : Frame → ℕ → ℕ
 frameStatus f n =
-    2 ^ 15 * flag (f .alignment) + 2 ^ 14 * flag (broadcast (destination f)) + 2 ^ 13 * flag (f .badCrc) + 2 ^ 12 * flag (bit 0 n)
+    2 ^ 15 * flag (f .alignment) + 2 ^ 14 * flag (broadcast (destination f)) + 2 ^ 13 * flag (badCrc (f .bytes)) + 2 ^ 12 * flag (bit 0 n)
     + 2 ^ 11 * flag (ltb 1518 (length (f .bytes))) + 2 ^ 10 * flag (ltb (length (f .bytes)) 64) + groupBits (destination f)
 
 -- "then for even n a zero and 40h, for odd n 60h"

@@ -1,4 +1,4 @@
--- Document 01, "A send finishes"; document 02, W2: which fault in the byte count.
+-- Document 01, "A send finishes"; document 02, W2: which fault in the byte count, and W4: the frame check sequence.
 use mathlib.Core.Bool.{Bool, true, false, cond, not, _&&_, _||_}
 use mathlib.Core.List.{List, [], _∷_, _++_}
 use Prim.Native.Nat.{ℕ, _+_, _-_, _*_, _/_, _%_, _^_, min}
@@ -11,6 +11,7 @@ use Rattle.rules.specs.Fields.{setTx, setCompletion, inSending, inRegist
 use Rattle.rules.specs.Answers.{Turn, refused, refusedWith, over}
 use Rattle.rules.specs.Packet.{getBytes, putBytes}
 use Rattle.rules.specs.Mmu.{giveBack}
+use Rattle.rules.specs.Crc.{fcs}
 use Rattle.rules.specs.Receive.{broadcast, group}
 
 -- "outcome (0 good, 1 sixteen collisions, 2 late collision, 3 lost carrier, 4 SQE missing, 5 underrun)", "deferral (0, 1 deferred, 2 excessive)"
@@ -31,17 +32,31 @@ byteCount pages memory = wordAt 0 (getBytes 2 2 pages memory)
 unfoldable pub sendLength : ℕ → ℕ → ℕ
 sendLength count last = cond (bit 5 last) (count - 5) (count - 6)
 
--- "With TCR bit 7 shorter data is padded by zeros to 60."
-unfoldable pub padded : ℕ → List ℕ → List ℕ
-padded tcr bytes = cond (bit 7 tcr) (bytes ++ replicate (60 - length bytes) 0) bytes
+-- W4: "A send appends four FCS bytes unless TCR bit 8 (NOCRC) is set and bit 4 of the packet's control byte is clear"
+unfoldable pub appends : ℕ → ℕ → Bool
+appends tcr control = not (bit 8 tcr && not (bit 4 control))
+
+-- "With TCR bit 7 shorter data is padded by zeros": "to 60 before an FCS, or to 64 without one"
+unfoldable pub padded : Bool → ℕ → List ℕ → List ℕ
+padded withFcs tcr bytes = cond (bit 7 tcr) (bytes ++ replicate (cond withFcs 60 64 - length bytes) 0) bytes
+
+-- the FCS is that of the padded data
+unfoldable pub ended : Bool → List ℕ → List ℕ
+ended withFcs bytes = cond withFcs (bytes ++ fcs bytes) bytes
+
+-- a packet's data as it goes out: padded, and its FCS behind it
+unfoldable pub onWire : ℕ → ℕ → List ℕ → List ℕ
+onWire tcr control bytes = ended (appends tcr control) (padded (appends tcr control) tcr bytes)
 
 -- the byte at c − 1 (the sheet's control byte, not the control register)
 unfoldable pub controlByte : ℕ → List ℕ → List ℕ → ℕ
 controlByte count pages memory = getD (getBytes 1 (count - 1) pages memory) 0 0
 
--- "The value is the length put out; all other output bytes stay, and failed sends put out the same bytes."
+-- "The value is the length put out", which "counts the FCS"; "all other output bytes stay, and failed sends put out the same bytes."
 unfoldable pub putOut : ℕ → ℕ → List ℕ → List ℕ → List ℕ
-putOut tcr count pages memory = padded tcr (getBytes (sendLength count (controlByte count pages memory)) 4 pages memory)
+putOut tcr count pages memory =
+    let control = controlByte count pages memory in
+    onWire tcr control (getBytes (sendLength count control) 4 pages memory)
 
 -- "Outcome 3 is good unless TCR bit 10 is set and bit 15 clear; 4 is good .. unless TCR bit 12 is set."
 unfoldable pub good : ℕ → ℕ → Bool
@@ -160,7 +175,7 @@ byTxHead s (k ∷ ks) c out = ifSendable s k ks c out
 -- refusals 15, 11, 12, 13, 18, 19, 14, in this order
 unfoldable pub finish : Send → Chip → List ℕ → Turn
 finish s c out =
-    cond (ltb (length out) 2048) (refused 15 c out)
+    cond (ltb (length out) 2052) (refused 15 c out)
     (cond (not (inLimits s)) (refused 11 c out)
     (cond (not (bit 0 (c .regs .sending .tcr))) (refused 12 c out)
     (byTxHead s (c .pool .tx) c out)))

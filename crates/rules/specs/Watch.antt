@@ -13,7 +13,7 @@ use Rattle.rules.specs.Bench.{Event, access, wire, frameEnds, send, unkn
 unfoldable pub isSend : Event → Bool
 isSend (access a) = false
 isSend (wire count bytes) = false
-isSend (frameEnds crc align) = false
+isSend (frameEnds align) = false
 isSend (send s) = true
 isSend unknown = false
 

@@ -1,4 +1,3 @@
 pub mod Facts
 pub mod Head
 pub mod Loops
-pub mod Padding

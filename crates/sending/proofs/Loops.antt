@@ -1,4 +1,4 @@
--- One turn of each loop: what is left to do says the same before and after it.
+-- One turn of the loop over an address: what is left to do says the same before and after it.
 use mathlib.Core.Path.{_≡_, sym, _∙_}
 use mathlib.Core.Bool.{Bool, false}
 use mathlib.Core.List.{List}
@@ -6,18 +6,11 @@ use Prim.Native.Nat.{ℕ, suc, _+_, _-_, _<_}
 use native.Mathlib.Numerals.{add-one}
 use native.Mathlib.Omega.{arith}
 use borrow.Author.Tests.{eq-eqb, ne-eqb}
-use lib.ListN.{set, replicate}
-use lib.Seq.{sets}
+use lib.ListN.{replicate}
 use Rattle.rules.specs.Packet.{getBytes}
 use Rattle.rules.specs.Data.{valueOf}
 use Rattle.rules.specs.Receive.{sameBytes}
 use Rattle.lists.specs.Bytes.{value-one}
-
--- zeros from i to n
-pub zeros-on : (l : List ℕ) (i n : ℕ) → i < n → sets l i (replicate (n - i) 0) ≡ sets (set l i 0) (i + 1) (replicate (n - (i + 1)) 0)
-zeros-on l i n h =
-    let e : n - i ≡ suc (n - (i + 1)) = omega arith in
-    rw (e, add-one)
 
 -- are the packet's bytes from address a to n each FFh?
 abbrev pub ones : ℕ → ℕ → List ℕ → List ℕ → Bool

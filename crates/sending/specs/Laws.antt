@@ -13,14 +13,15 @@ use Rattle.lists.specs.Facts.{no-head, head-and-rest}
 use Rattle.rules.specs.Send.{Send, inLimits, byteCount, good, putOut, autoRelease, noPlace, sendHead, ifUsable, ifSendable, byTxHead, finish}
 use Rattle.state.specs.declared.Answer.the-variants as answer
 use Rattle.state.specs.Meaning.{replyOf}
-use Rattle.sending.specs.Sends.{SendsOf, PutsOut, completed, CompletesOf, headSent}
+use Rattle.on_wire.specs.PutsOut.{PutsOut}
+use Rattle.sending.specs.Sends.{SendsOf, completed, CompletesOf, headSent}
 
 module _ (s : Send) (c : Chip) (out : List ℕ) where
-  pub short-output : length out < 2048 → finish s c out ≡ refused 15 c out
+  pub short-output : length out < 2052 → finish s c out ≡ refused 15 c out
   unfolding finish
   short-output h = rw (lt-ltb _ _ h)
 
-  module _ (long : 2048 ≤ length out) where
+  module _ (long : 2052 ≤ length out) where
     pub outside : inLimits s ≡ false → finish s c out ≡ refused 11 c out
     unfolding finish
     outside w = rw (le-ltb _ _ long, w)

@@ -3,12 +3,12 @@ use mathlib.Core.Path.{_≡_, ap, sym, _∙_}
 use mathlib.Core.Bool.{Bool, cond, not, _||_}
 use mathlib.Core.List.{List, []}
 use Prim.Native.Nat.{ℕ, _+_, _*_, _^_}
-use lib.ListN.{length, getD, drop}
+use lib.ListN.{getD, drop}
 use Rattle.rules.specs.Bits.{bit, clearBit, flag}
 use Rattle.rules.specs.Lists.{some?}
 use Rattle.rules.specs.Chip.{Registers, Layout, paged, Chip}
 use Rattle.rules.specs.Fields.{setTx, inSending, inRegisters, inPool}
-use Rattle.rules.specs.Answers.{Turn, over}
+use Rattle.rules.specs.Answers.{Turn}
 use Rattle.rules.specs.Packet.{getBytes}
 use Rattle.rules.specs.Send.{Send, outcomeBits, anyAt15, tally, newEcr, newEphsr, sentRegisters, retire, statusWritten, ifSendable}
 use Rattle.state.specs.declared.Answer.{Answer}
@@ -34,14 +34,6 @@ pub sends-once : {l : Layout} {t : Turn} {a a′ : Answer} {w s q mem out w′ s
 sends-once {a = a} {a′ = a′} x y =
     let e = one-state (x .sound) (y .sound) (x .chip ∙ sym (y .chip)) in
     (one-answer a a′ (x .reply ∙ sym (y .reply)), e .0, e .1, e .2, e .3, x .output ∙ sym (y .output))
-
--- the bytes are put out over the front of a buffer, and their number is returned
-pub record PutsOut (bytes before after : List ℕ) (n : ℕ) : Type 0 where
-  pub value : n ≡ length bytes
-  pub output : after ≡ over bytes before
-
-pub puts-once : {bytes before after after′ : List ℕ} {n n′ : ℕ} → PutsOut bytes before after n → PutsOut bytes before after′ n′ → (n ≡ n′) × (after ≡ after′)
-puts-once x y = (x .value ∙ sym (y .value), x .output ∙ sym (y .output))
 
 -- the rules' `sentRegisters`, by the bits of the address that is sent to
 abbrev pub sentBy : Bool → Send → ℕ → Bool → Registers → Registers

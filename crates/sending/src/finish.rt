@@ -10,6 +10,7 @@ use crate::event::is_within;
 use crate::output::LEAST_COUNT;
 use crate::output::is_past;
 use crate::output::put_out;
+use on_wire::OUTPUT_BYTES;
 use sets::Address;
 use state::Answer;
 use state::COMPLETION_COUNT;
@@ -59,7 +60,7 @@ fn send_head(
     out: &mut [u8],
     s: Send,
 ) -> Answer
-    requires { ⌜ Ready (now words) (now sets) (now queues) × (length (now memory) ≡ 6144) × (2048 ≤ length (now out)) × (0 < word (now words) 8) × (s .outcome ≤ 5) ⌝ }
+    requires { ⌜ Ready (now words) (now sets) (now queues) × (length (now memory) ≡ 6144) × (2052 ≤ length (now out)) × (0 < word (now words) 8) × (s .outcome ≤ 5) ⌝ }
     ensures { λ a. ⌜ Sends (headSent (sendOf s) (view (now (words .entry)) (now (sets .entry)) (now (queues .entry)) (now (memory .entry))) (now (out .entry))) a (now (words .exit)) (now (sets .exit)) (now (queues .exit)) (now (memory .exit)) (now (out .exit)) ⌝ }
 {
     let pages = sets::set_of(sets, pool::tx_head(queues));
@@ -97,7 +98,7 @@ pub fn finished(
     requires { ⌜ Ready (now words) (now sets) (now queues) × (length (now memory) ≡ 6144) ⌝ }
     ensures { λ a. ⌜ Sends (rules.finish (record { outcome = outcome; collisions = collisions; deferral = deferral }) (view (now (words .entry)) (now (sets .entry)) (now (queues .entry)) (now (memory .entry))) (now (out .entry))) a (now (words .exit)) (now (sets .exit)) (now (queues .exit)) (now (memory .exit)) (now (out .exit)) ⌝ }
 {
-    if out.len() < 2048 {
+    if out.len() < OUTPUT_BYTES {
         return Answer::ShortOutput;
     }
     let s = Send {

@@ -16,8 +16,6 @@ pub use event::is_within;
 pub use finish::finished;
 pub use output::LEAST_COUNT;
 pub use output::is_past;
-pub use output::pad_out;
-pub use output::send_length;
 
 // How a send ended, as its input says; `sendOf` gives the rules' record of it.
 pub struct Send {

@@ -40,7 +40,7 @@ unknown-unsent = refl
 pub wide-plain : {w : Bool} → w ≡ false → widest w ≡ 30
 wide-plain e = ap widest e
 
-pub wide-watched : {w : Bool} → w ≡ true → widest w ≡ 4136
+pub wide-watched : {w : Bool} → w ≡ true → widest w ≡ 4144
 wide-watched e = ap widest e
 
 -- The room for no line, for one more, and for fewer.

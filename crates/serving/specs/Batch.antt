@@ -21,7 +21,7 @@ formOf false = plain
 
 -- how long a line is at the most, and the room for n of them
 abbrev pub widest : Bool → ℕ
-widest true = 4136
+widest true = 4144
 widest false = 30
 
 unfoldable pub roomFor : Bool → ℕ → ℕ

@@ -25,7 +25,7 @@ pub fn print(
     out: &[u8],
 ) -> usize
     requires { ⌜ Kept (now words) × ((q : List ℕ) × QueuesIn (figures (now words)) q) ⌝ }
-    requires { ⌜ Counts counter × (length (now out) ≡ 2048) × (at + widest watching + 10 ≤ length (now lines)) ⌝ }
+    requires { ⌜ Counts counter × (length (now out) ≡ 2052) × (at + widest watching + 10 ≤ length (now lines)) ⌝ }
     ensures { λ end. ⌜ Prints watching (counter .number) answer sent (now (words .entry)) (now (out .entry)) (now (lines .entry)) at (now (lines .exit)) end × (end ≤ at + widest watching) ⌝ }
 {
     let shown = state::printed(answer);
@@ -45,7 +45,7 @@ pub fn last_line(
     kept: usize,
     number: u64,
 ) -> usize
-    requires { ⌜ Kept (now words) × ((q : List ℕ) × QueuesIn (figures (now words)) q) × (length (now out) ≡ 2048) × (roomFor watching 1 ≤ length (now lines)) ⌝ }
+    requires { ⌜ Kept (now words) × ((q : List ℕ) × QueuesIn (figures (now words)) q) × (length (now out) ≡ 2052) × (roomFor watching 1 ≤ length (now lines)) ⌝ }
     ensures text { λ end. ⌜ ((s q mem wire : List ℕ) → QueuesIn (figures (now (words .entry))) q → take end (now (lines .exit)) ≡ lastLine (formOf watching) kept number (holding (view (now (words .entry)) s q mem) wire (now (out .entry)))) ⌝ }
     ensures fits { λ end. ⌜ end ≤ length (now (lines .entry)) ⌝ }
 {
@@ -80,7 +80,7 @@ pub fn answer_all(
     end: &mut usize,
     number: &mut u64,
 )
-    requires { ⌜ Held (now words) (now sets) (now queues) (now memory) (now wire) (now have) × (length (now out) ≡ 2048) ⌝ }
+    requires { ⌜ Held (now words) (now sets) (now queues) (now memory) (now wire) (now have) × (length (now out) ≡ 2052) ⌝ }
     requires { ⌜ (length (now input) ≤ 8192) × (roomFor watching (length (now input) / 8) ≤ length (now lines)) × (now number + 1024 ≤ 0xffffffffffffffff) ⌝ }
     ensures answered { λ _. ⌜ Answered (formOf watching) (length (now (input .entry)) / 8) (now (number .entry)) (now (input .entry)) (holding (view (now (words .entry)) (now (sets .entry)) (now (queues .entry)) (now (memory .entry))) (take (now (have .entry)) (now (wire .entry))) (now (out .entry))) (now (words .exit)) (now (sets .exit)) (now (queues .exit)) (now (memory .exit)) (now (wire .exit)) (now (have .exit)) (now (out .exit)) (now (lines .exit)) (now (end .exit)) (now (number .exit)) ⌝ }
     ensures fits { λ _. ⌜ now (end .exit) ≤ length (now (lines .entry)) ⌝ }

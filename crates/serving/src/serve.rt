@@ -64,7 +64,7 @@ fn finish(
     number: u64,
     reading: Reading,
 )
-    requires { ⌜ Kept (now words) × ((q : List ℕ) × QueuesIn (figures (now words)) q) × (length (now out) ≡ 2048) ⌝ }
+    requires { ⌜ Kept (now words) × ((q : List ℕ) × QueuesIn (figures (now words)) q) × (length (now out) ≡ 2052) ⌝ }
     requires { ⌜ (roomFor watching 1 ≤ length (now lines)) × (length (now lines) ≤ 0x100000) × (1 ≤ number) × (number < 0x8000000000000000) ⌝ }
 {
     if let Reading::Failed = reading {
@@ -87,7 +87,7 @@ fn serve_from(
     input: &mut [u8],
     lines: &mut [u8],
 )
-    requires { ⌜ Held (now words) (now sets) (now queues) (now memory) (now wire) 0 × (length (now out) ≡ 2048) ⌝ }
+    requires { ⌜ Held (now words) (now sets) (now queues) (now memory) (now wire) 0 × (length (now out) ≡ 2052) ⌝ }
     requires { ⌜ (8 ≤ length (now input)) × (length (now input) ≤ 8192) × (roomFor watching (length (now input) / 8) ≤ length (now lines)) × (length (now lines) ≤ 0x100000) ⌝ }
 {
     let mut have = 0;
@@ -135,7 +135,7 @@ fn start(program: &[u8], watching: bool, input: &mut [u8], lines: &mut [u8])
     let mut queues = fifos.slots;
     let mut memory = [0; 6144];
     let mut wire = [0; 2048];
-    let mut out = [0; 2048];
+    let mut out = [0; 2052];
     serve_from(
         program,
         watching,
@@ -157,7 +157,7 @@ pub fn run(program: &[u8]) {
     start(program, false, &mut input, &mut lines);
 }
 
-// The same with the lines of `watch`, each of which may have 4,096 digits: it reads 64 records at once.
+// The same with the lines of `watch`, each of which may have 4,104 digits: it reads 64 records at once.
 pub fn watch(program: &[u8]) {
     let mut input = [0; 512];
     let mut lines = [0; 266240];

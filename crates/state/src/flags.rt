@@ -4,6 +4,8 @@ pub const TXENA: u16 = 0;
 
 pub const PAD_EN: u16 = 7;
 
+pub const NOCRC: u16 = 8;
+
 pub const MON_CSN: u16 = 10;
 
 pub const STP_SQET: u16 = 12;
@@ -95,6 +97,8 @@ pub const BROADCAST: u16 = 14;
 pub const ALGNERR: u16 = 15;
 
 // The control byte, last of a packet's bytes.
+pub const CRC: u8 = 4;
+
 pub const ODD: u8 = 5;
 
 // The first byte of an address: a group's has its first bit on the wire set.

@@ -11,7 +11,7 @@ use Rattle.rules.specs.Bits.{bit}
 use Rattle.rules.specs.Lists.{upFrom}
 use Rattle.rules.specs.Packet.{place, getBytes, putBytes}
 use Rattle.rules.specs.Receive.{countOf, trailer}
-use Rattle.rules.specs.Send.{sendLength, controlByte, padded, putOut}
+use Rattle.rules.specs.Send.{sendLength, controlByte, onWire, putOut}
 use Rattle.lists.specs.UpFrom.{up-at}
 use Rattle.packet.specs.Room.{imageOf}
 
@@ -86,4 +86,4 @@ module _ (k m : ℕ) (few : m ≤ 8) where
   unfolding putOut controlByte
   first-out tcr count memory h f =
       let last = getD (getBytes 1 (count - 1) (upFrom (8 * k) m) memory) 0 0 in
-      rw (first-get 1 (count - 1) memory (omega arith)) (ap (padded tcr) (first-get (sendLength count last) 4 memory (omega (arith, sent-below count last h))))
+      rw (first-get 1 (count - 1) memory (omega arith)) (ap (onWire tcr last) (first-get (sendLength count last) 4 memory (omega (arith, sent-below count last h))))

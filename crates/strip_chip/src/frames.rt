@@ -20,26 +20,24 @@ pub fn arrived(
     queues: &mut [u8],
     memory: &mut [u8],
     frame: &[u8],
-    bad_crc: bool,
     alignment: bool,
 ) -> Answer
     requires { ⌜ InOrderOf strips (now words) (now counts) (now queues) (now memory) ⌝ }
-    ensures { λ a. ⌜ RightOf strips (rules.step (rules.frame (frameOf (now (frame .entry)) «bad_crc» alignment)) (viewOf strips (now (words .entry)) (now (counts .entry)) (now (queues .entry)) (now (memory .entry)))) a (now (words .exit)) (now (counts .exit)) (now (queues .exit)) (now (memory .exit)) [] ⌝ }
+    ensures { λ a. ⌜ RightOf strips (rules.step (rules.frame (frameOf (now (frame .entry)) alignment)) (viewOf strips (now (words .entry)) (now (counts .entry)) (now (queues .entry)) (now (memory .entry)))) a (now (words .exit)) (now (counts .exit)) (now (queues .exit)) (now (memory .exit)) [] ⌝ }
 {
-    strip_steps::arrived(words, counts, queues, memory, frame, bad_crc, alignment)
+    strip_steps::arrived(words, counts, queues, memory, frame, alignment)
 }
 
-// A frame arrives: its bytes with FCS, and two flags.
+// A frame arrives: its bytes with FCS, and the flag alignment.
 pub fn frame(
     r: Registers,
     p: Strips,
     q: Queues,
     memory: &mut [u8],
     bytes: &[u8],
-    bad_crc: bool,
     alignment: bool,
 ) -> Returned
-    ensures { λ x. ⌜ Answers (rules.frame (frameOf (now (bytes .entry)) «bad_crc» alignment)) r p q (now (memory .entry)) x (now (memory .exit)) [] ⌝ }
+    ensures { λ x. ⌜ Answers (rules.frame (frameOf (now (bytes .entry)) alignment)) r p q (now (memory .entry)) x (now (memory .exit)) [] ⌝ }
 {
     let mut words = r.words;
     let mut counts = p.counts;
@@ -51,7 +49,6 @@ pub fn frame(
             &mut slots,
             memory,
             bytes,
-            bad_crc,
             alignment,
         )
     } else {

@@ -75,7 +75,7 @@ pub fn run(program: &[u8]) {
     let mut memory = [0; 49152];
     let mut wire = [0; 2048];
     let mut have = 0;
-    let mut out = [0; 2048];
+    let mut out = [0; 2052];
     let mut bytes = [0; 8];
     let mut line = [0; 40];
     let mut counter = records::counter_of(1);

@@ -23,15 +23,14 @@ fn frame_ends(
     memory: &mut [u8],
     wire: &[u8],
     have: &mut usize,
-    crc: bool,
     align: bool,
 ) -> Answer
     requires { ⌜ HeldOf strips (now words) (now counts) (now queues) (now memory) (now wire) (now have) ⌝ }
-    ensures { λ a. ⌜ RightOf strips (steps.step (steps.frame (frameOf (take (now (have .entry)) (now (wire .entry))) crc align)) (viewOf strips (now (words .entry)) (now (counts .entry)) (now (queues .entry)) (now (memory .entry)))) a (now (words .exit)) (now (counts .exit)) (now (queues .exit)) (now (memory .exit)) [] × (now (have .exit) ≡ 0) ⌝ }
+    ensures { λ a. ⌜ RightOf strips (steps.step (steps.frame (frameOf (take (now (have .entry)) (now (wire .entry))) align)) (viewOf strips (now (words .entry)) (now (counts .entry)) (now (queues .entry)) (now (memory .entry)))) a (now (words .exit)) (now (counts .exit)) (now (queues .exit)) (now (memory .exit)) [] × (now (have .exit) ≡ 0) ⌝ }
 {
     let n = *have;
     *have = 0;
-    strip_chip::arrived(words, counts, queues, memory, &wire[..n], crc, align)
+    strip_chip::arrived(words, counts, queues, memory, &wire[..n], align)
 }
 
 // A record of eight bytes, or of fewer where the input's end has cut it short.
@@ -60,9 +59,7 @@ pub fn answer(
             strip_chip::write(words, counts, queues, memory, width, offset, value)
         }
         Event::Wire(count) => turns::gather_more(wire, have, bytes, count),
-        Event::Ends(crc, align) => {
-            frame_ends(words, counts, queues, memory, wire, have, crc, align)
-        }
+        Event::Ends(align) => { frame_ends(words, counts, queues, memory, wire, have, align) }
         Event::Send(outcome, collisions, deferral) => strip_chip::finished(
             words,
             counts,

@@ -9,7 +9,7 @@ use Rattle.rules.specs.Send.{putOut}
 use Rattle.state.specs.View.{word, queueIn, stripsFrom}
 use Rattle.state.specs.Pages.{strip-at, strip-count}
 use Rattle.state.specs.Promise.{ReadyOf}
-use Rattle.sending.specs.Sends.{PutsOut}
+use Rattle.on_wire.specs.PutsOut.{PutsOut}
 use Rattle.sending.specs.After.{head-few}
 use Rattle.strip_bytes.specs.Strip.{stripOf, first-out}
 use Rattle.strip_steps.specs.Data.{count-few}

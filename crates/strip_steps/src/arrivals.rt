@@ -7,6 +7,7 @@ use receive::pages_for;
 use receive::status_of;
 use receive::turned_away;
 use state::Answer;
+use state::CONTROL;
 use state::RCR;
 ghost use mathlib.Core.Path.{_≡_};
 ghost use lib.ListN.{length};
@@ -24,40 +25,38 @@ fn stowed(
     queues: &mut [u8],
     memory: &mut [u8],
     frame: &[u8],
-    bad_crc: bool,
     alignment: bool,
 ) -> Answer
-    requires { ⌜ StowableOf strips (now words) (now counts) (now queues) (frameOf (now frame) «bad_crc» alignment) × (length (now memory) ≡ 49152) ⌝ }
-    ensures { λ a. ⌜ MakesOf strips (doneWith 0 (stow (frameOf (now (frame .entry)) «bad_crc» alignment) (viewOf strips (now (words .entry)) (now (counts .entry)) (now (queues .entry)) (now (memory .entry))))) a (now (words .exit)) (now (counts .exit)) (now (queues .exit)) (now (memory .exit)) ⌝ }
+    requires { ⌜ StowableOf strips (now words) (now counts) (now queues) (frameOf (now frame) alignment) × (length (now memory) ≡ 49152) ⌝ }
+    ensures { λ a. ⌜ MakesOf strips (doneWith 0 (stow (frameOf (now (frame .entry)) alignment) (viewOf strips (now (words .entry)) (now (counts .entry)) (now (queues .entry)) (now (memory .entry))))) a (now (words .exit)) (now (counts .exit)) (now (queues .exit)) (now (memory .exit)) ⌝ }
 {
     let n = data_length(words[RCR], frame.len());
+    let status = status_of(words[CONTROL], frame, n, alignment);
     let packet = strips::lowest_unallocated(counts);
     strips::grant(words, counts, packet, pages_for(n));
-    let status = status_of(frame, n, bad_crc, alignment);
     strip_bytes::store_frame(memory, packet, status, count_of(n), frame, n);
     pool::join_rx(words, queues, packet);
     Answer::Done(0)
 }
 
-// A frame arrives at a chip that is well formed: its bytes with FCS, and two flags.
+// A frame arrives at a chip that is well formed: its bytes with FCS, and the flag alignment.
 pub fn arrived(
     words: &mut [u16],
     counts: &mut [u32],
     queues: &mut [u8],
     memory: &mut [u8],
     frame: &[u8],
-    bad_crc: bool,
     alignment: bool,
 ) -> Answer
     requires { ⌜ ReadyOf strips (now words) (now counts) (now queues) × (length (now memory) ≡ 49152) ⌝ }
-    ensures { λ a. ⌜ MakesOf strips (arrive (frameOf (now (frame .entry)) «bad_crc» alignment) (viewOf strips (now (words .entry)) (now (counts .entry)) (now (queues .entry)) (now (memory .entry)))) a (now (words .exit)) (now (counts .exit)) (now (queues .exit)) (now (memory .exit)) ⌝ }
+    ensures { λ a. ⌜ MakesOf strips (arrive (frameOf (now (frame .entry)) alignment) (viewOf strips (now (words .entry)) (now (counts .entry)) (now (queues .entry)) (now (memory .entry)))) a (now (words .exit)) (now (counts .exit)) (now (queues .exit)) (now (memory .exit)) ⌝ }
 {
     if frame.len() < 18 {
         return Answer::OutsideLimits;
     }
-    let verdict = judged(words, frame, bad_crc, alignment);
+    let verdict = judged(words, frame, alignment);
     if !is_stored(verdict) {
         return turned_away(words, verdict);
     }
-    stowed(words, counts, queues, memory, frame, bad_crc, alignment)
+    stowed(words, counts, queues, memory, frame, alignment)
 }

@@ -1,4 +1,5 @@
 // A send finishes: the TX head is sent. What looks at no pages is called from `sending`.
+use on_wire::OUTPUT_BYTES;
 use sending::LEAST_COUNT;
 use sending::Send;
 use sending::after_send;
@@ -72,7 +73,7 @@ fn send_head(
     out: &mut [u8],
     s: Send,
 ) -> Answer
-    requires { ⌜ ReadyOf strips (now words) (now counts) (now queues) × (length (now memory) ≡ 49152) × (2048 ≤ length (now out)) × (0 < word (now words) 8) × (s .outcome ≤ 5) ⌝ }
+    requires { ⌜ ReadyOf strips (now words) (now counts) (now queues) × (length (now memory) ≡ 49152) × (2052 ≤ length (now out)) × (0 < word (now words) 8) × (s .outcome ≤ 5) ⌝ }
     ensures { λ a. ⌜ SendsOf strips (headSent (sendOf s) (viewOf strips (now (words .entry)) (now (counts .entry)) (now (queues .entry)) (now (memory .entry))) (now (out .entry))) a (now (words .exit)) (now (counts .exit)) (now (queues .exit)) (now (memory .exit)) (now (out .exit)) ⌝ }
 {
     let packet = pool::tx_head(queues);
@@ -110,7 +111,7 @@ pub fn finished(
     requires { ⌜ ReadyOf strips (now words) (now counts) (now queues) × (length (now memory) ≡ 49152) ⌝ }
     ensures { λ a. ⌜ SendsOf strips (rules.finish (record { outcome = outcome; collisions = collisions; deferral = deferral }) (viewOf strips (now (words .entry)) (now (counts .entry)) (now (queues .entry)) (now (memory .entry))) (now (out .entry))) a (now (words .exit)) (now (counts .exit)) (now (queues .exit)) (now (memory .exit)) (now (out .exit)) ⌝ }
 {
-    if out.len() < 2048 {
+    if out.len() < OUTPUT_BYTES {
         return Answer::ShortOutput;
     }
     let s = Send {

@@ -37,11 +37,11 @@ module _ {l : Layout} {w s q mem wire : List ℕ} {have : ℕ} (out : List ℕ) 
   unfolding rules.answer
   access-turns i p = turning (step (driver i) (viewOf l w s q mem)) have (h .few) p refl
 
-  pub frame-turns : (crc align : Bool) {a : Answer} {w′ s′ q′ mem′ : List ℕ} {left : ℕ}
-      → RightOf l (step (frame (frameOf (take have wire) crc align)) (viewOf l w s q mem)) a w′ s′ q′ mem′ [] × (left ≡ 0)
-      → TurnsOf l (rules.answer (rules.frameEnds crc align) (holding (viewOf l w s q mem) (take have wire) out)) a w′ s′ q′ mem′ wire left out
+  pub frame-turns : (align : Bool) {a : Answer} {w′ s′ q′ mem′ : List ℕ} {left : ℕ}
+      → RightOf l (step (frame (frameOf (take have wire) align)) (viewOf l w s q mem)) a w′ s′ q′ mem′ [] × (left ≡ 0)
+      → TurnsOf l (rules.answer (rules.frameEnds align) (holding (viewOf l w s q mem) (take have wire) out)) a w′ s′ q′ mem′ wire left out
   unfolding rules.answer
-  frame-turns crc align p = rw (p .1) (turning _ 0 (omega arith) (p .0) refl)
+  frame-turns align p = rw (p .1) (turning _ 0 (omega arith) (p .0) refl)
 
   -- a send is lent it
   pub send-turns : (x : Send) {a : Answer} {w′ s′ q′ mem′ out′ : List ℕ} → RightOf l (step (sent x out) (viewOf l w s q mem)) a w′ s′ q′ mem′ out′

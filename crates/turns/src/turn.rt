@@ -37,15 +37,14 @@ fn frame_ends(
     memory: &mut [u8],
     wire: &[u8],
     have: &mut usize,
-    crc: bool,
     align: bool,
 ) -> Answer
     requires { ⌜ Held (now words) (now sets) (now queues) (now memory) (now wire) (now have) ⌝ }
-    ensures { λ a. ⌜ Right (steps.step (steps.frame (frameOf (take (now (have .entry)) (now (wire .entry))) crc align)) (view (now (words .entry)) (now (sets .entry)) (now (queues .entry)) (now (memory .entry)))) a (now (words .exit)) (now (sets .exit)) (now (queues .exit)) (now (memory .exit)) [] × (now (have .exit) ≡ 0) ⌝ }
+    ensures { λ a. ⌜ Right (steps.step (steps.frame (frameOf (take (now (have .entry)) (now (wire .entry))) align)) (view (now (words .entry)) (now (sets .entry)) (now (queues .entry)) (now (memory .entry)))) a (now (words .exit)) (now (sets .exit)) (now (queues .exit)) (now (memory .exit)) [] × (now (have .exit) ≡ 0) ⌝ }
 {
     let n = *have;
     *have = 0;
-    chip::arrived(words, sets, queues, memory, &wire[..n], crc, align)
+    chip::arrived(words, sets, queues, memory, &wire[..n], align)
 }
 
 // A record of eight bytes.
@@ -69,9 +68,7 @@ pub fn answer(
             chip::write(words, sets, queues, memory, width, offset, value)
         }
         Event::Wire(count) => gather_more(wire, have, bytes, count),
-        Event::Ends(crc, align) => {
-            frame_ends(words, sets, queues, memory, wire, have, crc, align)
-        }
+        Event::Ends(align) => { frame_ends(words, sets, queues, memory, wire, have, align) }
         Event::Send(outcome, collisions, deferral) => chip::finished(
             words,
             sets,

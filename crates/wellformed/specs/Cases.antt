@@ -113,7 +113,7 @@ module _ (c : Chip) (out : List ℕ) (P : Turn → Type 0) where
       → ((k : ℕ) (rest : List ℕ) → c .pool .tx ≡ k ∷ rest → noPlace s c ≡ false → P (sendHead s k rest c out)) → P (finish s c out)
   unfolding finish ifSendable
   by-send s r15 r11 r12 r13 r18 r19 r14 h =
-      pick P (ltb (length out) 2048) r15
+      pick P (ltb (length out) 2052) r15
       (pick-unless P (inLimits s) (λ l. r11) (λ l. pick-unless P (bit 0 (c .regs .sending .tcr)) (λ e. r12) (λ e. by-tx-head (c .pool .tx) refl)))
     where
       by-tx-head : (l : List ℕ) → c .pool .tx ≡ l → P (byTxHead s l c out)

@@ -1,7 +1,6 @@
 //! Destination addresses and the hash into the multicast table.
 
-/// The generator of IEEE 802.3's CRC, highest power first.
-const POLYNOMIAL: u32 = 0x04c1_1db7;
+use crate::crc;
 
 /// Six address bytes in wire order.
 #[derive(Clone, Copy, Debug, Default, PartialEq, Eq)]
@@ -26,25 +25,10 @@ impl MacAddress {
         self.0[0] & 1 != 0
     }
 
-    /// "its top six bits".
+    /// "the CRC of IEEE 802.3 run over the six address bytes ..; its top six
+    /// bits".
     pub fn hash(self) -> Hash {
-        Hash((self.crc() >> 26) as u8)
-    }
-
-    /// "the CRC of IEEE 802.3 run over the six address bytes in wire bit
-    /// order, preset to ones, not complemented, shifted left".
-    fn crc(self) -> u32 {
-        self.wire_bits().fold(u32::MAX, |crc, bit| {
-            let feedback = (crc >> 31) ^ bit;
-            (crc << 1) ^ (feedback * POLYNOMIAL)
-        })
-    }
-
-    /// Each byte goes out lowest bit first.
-    fn wire_bits(self) -> impl Iterator<Item = u32> {
-        self.0
-            .into_iter()
-            .flat_map(|byte| (0..8).map(move |bit| u32::from(byte >> bit & 1)))
+        Hash((crc::remainder(&self.0) >> 26) as u8)
     }
 }
 

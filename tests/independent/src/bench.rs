@@ -1,7 +1,6 @@
 //! "Bench program and its records".
 
 use crate::chip::ChipOn;
-use crate::frame::Flags;
 use crate::memory::{Layout, Paged, Strips};
 use crate::refusal::Refusal;
 use crate::registers::Width;
@@ -115,13 +114,11 @@ impl<L: Layout> BenchOn<L> {
         self.chip.write(width, offset, value).map(|()| 0)
     }
 
-    /// "gathering emptied whatever the answer".
+    /// "gathering emptied whatever the answer"; "bit 0 of record kind 6
+    /// ignored".
     fn end_frame(&mut self, flags: u8) -> Answer {
-        let flags = Flags {
-            bad_crc: flags & 1 != 0,
-            alignment: flags & 2 != 0,
-        };
-        let answer = self.chip.arrive(self.gathered.as_slice(), flags);
+        let alignment = flags & 2 != 0;
+        let answer = self.chip.arrive(self.gathered.as_slice(), alignment);
         self.gathered.clear();
         answer.map(|arrival| arrival as u16)
     }

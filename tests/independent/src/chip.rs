@@ -8,6 +8,7 @@ use crate::memory::{Layout, PacketAddress, PacketNumber, Paged, Strips};
 pub mod tcr {
     pub const TXENA: u16 = 1 << 0;
     pub const PAD_EN: u16 = 1 << 7;
+    pub const NOCRC: u16 = 1 << 8;
     pub const MON_CSN: u16 = 1 << 10;
     pub const STP_SQET: u16 = 1 << 12;
     pub const FDSE: u16 = 1 << 15;

@@ -2,6 +2,7 @@
 
 use crate::address::MacAddress;
 use crate::chip::{control, rcr, ChipOn};
+use crate::crc::{self, FCS_SIZE};
 use crate::memory::{Layout, PAGE_SIZE};
 use crate::refusal::Refusal;
 
@@ -13,7 +14,6 @@ const SHORT_BELOW: usize = 64;
 const LONG_ABOVE: usize = 1_518;
 /// "1,532 decides": above it nothing is stored.
 const MOST: usize = 1_532;
-const FCS: usize = 4;
 /// Status and byte count.
 const HEADER: usize = 4;
 /// The longest header, frame and trailer.
@@ -31,11 +31,38 @@ mod status {
     pub const ALIGNMENT: u16 = 1 << 15;
 }
 
-/// What the receiver says of a frame besides its bytes.
-#[derive(Clone, Copy, Debug, Default, PartialEq, Eq)]
-pub struct Flags {
-    pub bad_crc: bool,
-    pub alignment: bool,
+/// A frame's bytes with FCS, and what is wrong with them.
+#[derive(Clone, Copy, Debug)]
+struct Arriving<'a> {
+    bytes: &'a [u8],
+    /// The one flag that is given.
+    alignment: bool,
+    /// "no longer given but found from the frame", "whatever the alignment
+    /// flag says".
+    bad_crc: bool,
+}
+
+impl<'a> Arriving<'a> {
+    fn new(bytes: &'a [u8], alignment: bool) -> Self {
+        Self {
+            bytes,
+            alignment,
+            bad_crc: crc::is_bad(bytes),
+        }
+    }
+
+    fn len(self) -> usize {
+        self.bytes.len()
+    }
+
+    fn destination(self) -> MacAddress {
+        MacAddress::leading(self.bytes)
+    }
+
+    /// "flagged or under 64 bytes".
+    fn is_damaged(self) -> bool {
+        self.bad_crc || self.alignment || self.len() < SHORT_BELOW
+    }
 }
 
 /// A frame's fate: the value of its answer.
@@ -65,14 +92,15 @@ pub fn pages_needed(n: usize) -> usize {
 }
 
 impl<L: Layout> ChipOn<L> {
-    /// `frame` holds the bytes with FCS.
-    pub fn arrive(&mut self, frame: &[u8], flags: Flags) -> Result<Arrival, Refusal> {
-        if frame.len() < LEAST {
+    /// `bytes` are those with FCS.
+    pub fn arrive(&mut self, bytes: &[u8], alignment: bool) -> Result<Arrival, Refusal> {
+        if bytes.len() < LEAST {
             return Err(Refusal::OutsideLimits);
         }
-        let fate = self.judge_frame(frame, flags);
+        let frame = Arriving::new(bytes, alignment);
+        let fate = self.judge_frame(frame);
         match fate {
-            Arrival::Stored => self.store_frame(frame, flags),
+            Arrival::Stored => self.store_frame(frame),
             Arrival::TooLong => self.registers.rcr |= rcr::RX_ABORT,
             Arrival::NoRoom => {
                 self.registers.rcr |= rcr::RX_ABORT;
@@ -84,15 +112,14 @@ impl<L: Layout> ChipOn<L> {
     }
 
     /// "The answer's value is the first that holds".
-    fn judge_frame(&self, frame: &[u8], flags: Flags) -> Arrival {
-        let bad = flags.bad_crc || flags.alignment || frame.len() < SHORT_BELOW;
+    fn judge_frame(&self, frame: Arriving) -> Arrival {
         if self.registers.rcr & rcr::RXEN == 0 {
             Arrival::ReceiverOff
-        } else if !self.accepts(MacAddress::leading(frame)) {
+        } else if !self.accepts(frame.destination()) {
             Arrival::NotForUs
         } else if frame.len() > MOST {
             Arrival::TooLong
-        } else if bad && self.registers.control & control::RECEIVE_BAD == 0 {
+        } else if frame.is_damaged() && self.registers.control & control::RECEIVE_BAD == 0 {
             Arrival::Damaged
         } else if !self.has_room(pages_needed(self.stored_length(frame))) {
             Arrival::NoRoom
@@ -120,9 +147,9 @@ impl<L: Layout> ChipOn<L> {
     }
 
     /// "n is the length, less 4 when RCR bit 9 is set."
-    fn stored_length(&self, frame: &[u8]) -> usize {
+    fn stored_length(&self, frame: Arriving) -> usize {
         if self.registers.rcr & rcr::STRIP_CRC != 0 {
-            frame.len() - FCS
+            frame.len() - FCS_SIZE
         } else {
             frame.len()
         }
@@ -130,16 +157,16 @@ impl<L: Layout> ChipOn<L> {
 
     /// "status, byte count, n bytes, then for even n a zero and 40h, for odd n
     /// 60h"; "the allocation result stays".
-    fn store_frame(&mut self, frame: &[u8], flags: Flags) {
+    fn store_frame(&mut self, frame: Arriving) {
         let n = self.stored_length(frame);
         let count = byte_count(n);
         let Some(packet) = self.packets.grant(pages_needed(n)) else {
             return; // has_room said otherwise
         };
         let mut image = [0; LONGEST_IMAGE];
-        image[0..2].copy_from_slice(&frame_status(frame, flags, n).to_le_bytes());
+        image[0..2].copy_from_slice(&frame_status(frame, n).to_le_bytes());
         image[2..4].copy_from_slice(&(count as u16).to_le_bytes());
-        image[HEADER..HEADER + n].copy_from_slice(&frame[..n]);
+        image[HEADER..HEADER + n].copy_from_slice(&frame.bytes[..n]);
         image[count - 1] = if n.is_multiple_of(2) { 0x40 } else { 0x60 };
         self.packets.fill(packet, &image[..count]);
         self.rx.push(packet);
@@ -148,12 +175,12 @@ impl<L: Layout> ChipOn<L> {
 
 /// "Status: 15 alignment, 14 broadcast, 13 bad CRC, 12 odd n, 11 frame with FCS
 /// over 1,518 bytes, 10 under 64; group but not broadcast: bit 0, hash in 6 to 1."
-fn frame_status(frame: &[u8], flags: Flags, n: usize) -> u16 {
-    let destination = MacAddress::leading(frame);
+fn frame_status(frame: Arriving, n: usize) -> u16 {
+    let destination = frame.destination();
     let bits = [
-        (flags.alignment, status::ALIGNMENT),
+        (frame.alignment, status::ALIGNMENT),
         (destination.is_broadcast(), status::BROADCAST),
-        (flags.bad_crc, status::BAD_CRC),
+        (frame.bad_crc, status::BAD_CRC),
         (n % 2 == 1, status::ODD),
         (frame.len() > LONG_ABOVE, status::LONG),
         (frame.len() < SHORT_BELOW, status::SHORT),

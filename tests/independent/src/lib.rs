@@ -7,6 +7,7 @@ pub mod bench;
 pub mod chip;
 pub mod coverage;
 pub mod covering;
+pub mod crc;
 pub mod fifo;
 pub mod frame;
 pub mod generator;
@@ -20,6 +21,7 @@ pub mod registers;
 pub mod send;
 pub mod told;
 pub mod watch;
+pub mod wire;
 
 #[cfg(test)]
 mod tests;

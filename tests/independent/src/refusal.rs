@@ -3,7 +3,7 @@
 /// Why a step was refused. "A refusal returns value 0 and changes nothing"; W2
 /// amends the value of three.
 ///
-/// 15 and 16 cannot arise here: the output buffer is 2,048 bytes and the state
+/// 15 and 16 cannot arise here: the output buffer is 2,052 bytes and the state
 /// only ever grows from power-up.
 #[derive(Clone, Copy, Debug, PartialEq, Eq)]
 pub enum Refusal {

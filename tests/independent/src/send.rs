@@ -2,13 +2,16 @@
 
 use crate::address::MacAddress;
 use crate::chip::{control, ephsr, tcr, ChipOn};
+use crate::crc::{self, FCS_SIZE};
 use crate::memory::{Layout, PacketAddress, PacketNumber};
 use crate::refusal::Refusal;
 
-/// The longest data of a packet fits with room to spare.
-pub const OUTPUT_SIZE: usize = 2_048;
-/// "With TCR bit 7 shorter data is padded by zeros to 60."
-const PADDED: usize = 60;
+/// "output buffer 2,052 bytes".
+pub const OUTPUT_SIZE: usize = 2_052;
+/// "With TCR bit 7 shorter data is padded by zeros": "padding goes to 60 before
+/// an FCS, or to 64 without one".
+const PADDED_BEFORE_FCS: usize = 60;
+const PADDED_WITHOUT_FCS: usize = 64;
 /// "must be even, at least 12, within the pages".
 const LEAST_COUNT: u16 = 12;
 const STATUS_AT: PacketAddress = PacketAddress(0);
@@ -16,6 +19,8 @@ const COUNT_AT: PacketAddress = PacketAddress(2);
 const DATA_AT: PacketAddress = PacketAddress(4);
 /// "if bit 5 of the byte at c − 1 is set": the data is odd.
 const CONTROL_ODD: u8 = 1 << 5;
+/// "bit 4 of the packet's control byte": an FCS even with NOCRC.
+const CONTROL_CRC: u8 = 1 << 4;
 
 #[derive(Clone, Copy, Debug, PartialEq, Eq)]
 pub enum Outcome {
@@ -114,6 +119,8 @@ struct Due {
     packet: PacketNumber,
     /// How many bytes of data.
     data: usize,
+    /// "A send appends four FCS bytes".
+    appends_fcs: bool,
     verdict: Verdict,
     /// "Good with control bit 11: the packet is released."
     releases: bool,
@@ -175,7 +182,7 @@ impl<L: Layout> ChipOn<L> {
     /// other output bytes stay, and failed sends put out the same bytes."
     pub fn send(&mut self, end: SendEnd, output: &mut [u8; OUTPUT_SIZE]) -> Result<u16, Refusal> {
         let due = self.due(end)?;
-        let length = self.put_out(due.packet, due.data, output);
+        let length = self.put_out(due, output);
         self.note_end(end, due.verdict, MacAddress::leading(output));
         self.write_status(due.packet); // before its pages can be granted anew
         self.tx.pop();
@@ -214,6 +221,7 @@ impl<L: Layout> ChipOn<L> {
         Ok(Due {
             packet,
             data,
+            appends_fcs: self.appends_fcs(packet),
             verdict,
             releases,
         })
@@ -224,10 +232,30 @@ impl<L: Layout> ChipOn<L> {
         if let Some(fault) = self.count_faults(packet).next() {
             return Err(fault);
         }
+        let odd = self.control_byte(packet) & CONTROL_ODD != 0;
+        let around = if odd { 5 } else { 6 };
+        Ok(usize::from(self.byte_count(packet)) - around)
+    }
+
+    /// "the byte at c − 1", of a count that is usable.
+    pub fn control_byte(&self, packet: PacketNumber) -> u8 {
         let count = self.byte_count(packet);
-        let control = self.packets.byte(packet, PacketAddress(count - 1));
-        let around = if control & CONTROL_ODD != 0 { 5 } else { 6 };
-        Ok(usize::from(count) - around)
+        self.packets.byte(packet, PacketAddress(count - 1))
+    }
+
+    /// "unless TCR bit 8 (NOCRC) is set and bit 4 of the packet's control byte
+    /// is clear", of a count that is usable.
+    pub fn appends_fcs(&self, packet: PacketNumber) -> bool {
+        let asked = self.control_byte(packet) & CONTROL_CRC != 0;
+        asked || self.registers.tcr & tcr::NOCRC == 0
+    }
+
+    /// Up to where TCR bit 7 pads: "60 before an FCS, or .. 64 without one".
+    pub fn padded_length(&self, packet: PacketNumber) -> usize {
+        match self.appends_fcs(packet) {
+            true => PADDED_BEFORE_FCS,
+            false => PADDED_WITHOUT_FCS,
+        }
     }
 
     /// "Count c at addresses 2 and 3, low byte first", usable or not.
@@ -250,14 +278,22 @@ impl<L: Layout> ChipOn<L> {
             .filter_map(|(fault, holds)| holds.then_some(fault))
     }
 
-    /// Copies the data out, padded if TCR says so, and gives the length.
-    fn put_out(&self, packet: PacketNumber, data: usize, output: &mut [u8; OUTPUT_SIZE]) -> usize {
+    /// Copies the data out, padded if TCR says so, the FCS of all that behind
+    /// it, and gives the length.
+    fn put_out(&self, due: Due, output: &mut [u8; OUTPUT_SIZE]) -> usize {
+        let (data, packet) = (due.data, due.packet);
         self.packets.copy_out(packet, DATA_AT, &mut output[..data]);
-        if self.registers.tcr & tcr::PAD_EN == 0 || data >= PADDED {
-            return data;
+        let padded = match self.registers.tcr & tcr::PAD_EN {
+            0 => data,
+            _ => data.max(self.padded_length(packet)),
+        };
+        output[data..padded].fill(0);
+        if !due.appends_fcs {
+            return padded;
         }
-        output[data..PADDED].fill(0);
-        PADDED
+        let (before, behind) = output.split_at_mut(padded);
+        behind[..FCS_SIZE].copy_from_slice(&crc::fcs(before));
+        padded + FCS_SIZE
     }
 
     /// Brings ECR, EPHSR and TXENA to what the send's end makes of them.

@@ -1,6 +1,8 @@
 //! The cases that documents 01 and 02 themselves name.
 
 mod counts;
+mod crc;
+mod fcs;
 mod streams;
 mod strips;
 mod waiting;
@@ -10,12 +12,13 @@ mod written;
 use crate::address::MacAddress;
 use crate::bench::{numbers, push_line, Bench, Record};
 use crate::chip::{Chip, Pointer};
-use crate::frame::{byte_count, pages_needed, Arrival, Flags};
+use crate::frame::{byte_count, pages_needed, Arrival};
 use crate::memory::PacketNumber;
 use crate::refusal::Refusal;
 use crate::registers::Width::{Byte, Word};
 use crate::send::{SendEnd, OUTPUT_SIZE};
 use crate::told::tell;
+use crate::wire::{self, Check};
 
 const RX: u16 = Pointer::RECEIVE | Pointer::AUTO_INCREMENT | Pointer::READ;
 const LOAD: u16 = Pointer::AUTO_INCREMENT;
@@ -86,6 +89,13 @@ fn send(chip: &mut Chip, outcome: u8, collisions: u8, deferral: u8) -> Result<u1
     SendEnd::new(outcome, collisions, deferral).and_then(|end| chip.send(end, &mut output))
 }
 
+/// Some bytes, the last four of them the FCS of the rest.
+fn frame_of(length: usize) -> Vec<u8> {
+    let mut frame: Vec<u8> = (0..length).map(|at| at as u8).collect();
+    wire::end(&mut frame, Check::Right);
+    frame
+}
+
 /// The records that document 01 shows the lines of.
 const EXAMPLE: [&[u8]; 10] = [
     &[0x02, 0x0e],
@@ -146,14 +156,14 @@ fn stored_frames_either_side() {
     for (n, count, pages) in COUNTS {
         let mut chip = Chip::default();
         put(&mut chip, RCR, 0x0102);
-        let frame: Vec<u8> = (0..n).map(|at| at as u8).collect();
-        assert_eq!(chip.arrive(&frame, Flags::default()), Ok(Arrival::Stored));
+        let frame = frame_of(n);
+        assert_eq!(chip.arrive(&frame, false), Ok(Arrival::Stored));
         assert_eq!(get(&mut chip, MIR), ((24 - pages) << 8 | 0x18) as u16);
         assert_eq!(usize::from(word_at(&mut chip, RX | 2)), count);
         let last = word_at(&mut chip, RX | (count as u16 - 2));
         let expected = match n % 2 {
             0 => 0x4000,
-            _ => 0x6000 | (n - 1) as u16 & 0xff,
+            _ => 0x6000 | u16::from(frame[n - 1]),
         };
         assert_eq!(last, expected, "trailer of {n}");
     }
@@ -185,21 +195,17 @@ fn word_at_2047_is_past_the_pages() {
 fn length_1533_is_too_long() {
     let mut chip = Chip::default();
     put(&mut chip, RCR, 0x0102);
-    let frame = [0; 1_533];
-    assert_eq!(chip.arrive(&frame, Flags::default()), Ok(Arrival::TooLong));
+    assert_eq!(chip.arrive(&frame_of(1_533), false), Ok(Arrival::TooLong));
     assert_eq!(get(&mut chip, RCR), 0x0103);
     assert!(!chip.registers.rx_overrun);
-    assert_eq!(
-        chip.arrive(&frame[..1_532], Flags::default()),
-        Ok(Arrival::Stored)
-    );
+    assert_eq!(chip.arrive(&frame_of(1_532), false), Ok(Arrival::Stored));
 }
 
 #[test]
 fn twenty_five_sends_fill_completion() {
     let mut chip = loaded(12);
     for _ in 0..24 {
-        assert_eq!(send(&mut chip, 0, 0, 0), Ok(6));
+        assert_eq!(send(&mut chip, 0, 0, 0), Ok(10));
         put(&mut chip, COMMAND, ENQUEUE);
     }
     assert_eq!(send(&mut chip, 0, 0, 0), Err(Refusal::CompletionFull));
@@ -207,7 +213,7 @@ fn twenty_five_sends_fill_completion() {
     put(&mut chip, CONTROL, 0x0800);
     assert_eq!(
         send(&mut chip, 0, 0, 0),
-        Ok(6),
+        Ok(10),
         "a released packet joins nothing"
     );
 }
@@ -261,7 +267,7 @@ fn remove_and_release_takes_the_rx_head() {
     let mut chip = Chip::default();
     allocate(&mut chip, 1);
     put(&mut chip, RCR, 0x0102);
-    chip.arrive(&[0; 64], Flags::default()).unwrap();
+    chip.arrive(&frame_of(64), false).unwrap();
     put(&mut chip, COMMAND, RELEASE_RX);
     assert_eq!(get(&mut chip, MIR), 0x1718);
     assert_eq!(chip.selected_packet(), PacketNumber::new(0));
@@ -271,7 +277,7 @@ fn remove_and_release_takes_the_rx_head() {
 fn a_failed_single_collision_is_not_counted() {
     let mut chip = loaded(12);
     put(&mut chip, TCR, 0x1001);
-    assert_eq!(send(&mut chip, 4, 1, 0), Ok(6));
+    assert_eq!(send(&mut chip, 4, 1, 0), Ok(10));
     assert_eq!(get(&mut chip, ECR), 0);
     assert_eq!(get(&mut chip, EPHSR), 0x0022);
     assert_eq!(get(&mut chip, TCR), 0x1000);
@@ -283,7 +289,7 @@ fn counters_stop_at_fifteen() {
     let mut chip = loaded(12);
     for _ in 0..17 {
         put(&mut chip, CONTROL, 0x0040);
-        assert_eq!(send(&mut chip, 0, 1, 2), Ok(6));
+        assert_eq!(send(&mut chip, 0, 1, 2), Ok(10));
         put(&mut chip, COMMAND, ENQUEUE);
     }
     assert_eq!(get(&mut chip, EPHSR), 0x1001);
@@ -303,9 +309,11 @@ fn padding_reaches_sixty() {
         put(&mut bench.chip, DATA, value);
     }
     put(&mut bench.chip, TCR, 0x0081);
-    assert_eq!(bench.step(&record(&[7])), Ok(60));
+    assert_eq!(bench.step(&record(&[7])), Ok(64));
     assert_eq!(bench.output[..9], [0x11; 9]);
     assert_eq!(bench.output[9..60], [0; 51]);
+    assert_eq!(bench.output[60..64], [0x76, 0x9f, 0xfc, 0x3c]); // zlib's
+    assert_eq!(bench.output[64..], [0; OUTPUT_SIZE - 64]);
 }
 
 #[test]
@@ -401,8 +409,8 @@ fn a_send_is_told_whole() {
     let lines: Vec<Vec<&str>> = told.lines().map(|line| line.split(' ').collect()).collect();
     assert_eq!(lines[1][..4], ["2", "0", "0000", "0"]);
     assert_eq!(lines[2][..4], ["3", "0", "0000", "1"]);
-    assert_eq!(lines[8][..4], ["9", "0", "0006", "1"]);
-    assert_eq!(lines[8][7], "abcd00000000");
-    assert!(lines[11][1].starts_with("abcd00000000"));
+    assert_eq!(lines[8][..4], ["9", "0", "000a", "1"]);
+    assert_eq!(lines[8][7], "abcd00000000e46c9cd3"); // the FCS is zlib's
+    assert!(lines[11][1].starts_with("abcd00000000e46c9cd3"));
     assert!(lines[12][1].starts_with("09000c00abcd"));
 }

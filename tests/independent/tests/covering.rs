@@ -28,9 +28,15 @@ fn every_cell_is_reached() {
     assert!(missing.is_empty(), "not reached: {missing:#?}");
 }
 
-/// The cells of requests that wait, and of sends refused for their count or
-/// beside it.
-const STEERED_INTO: [&str; 3] = ["waiting request", "byte count", "| send 1"];
+/// The cells of requests that wait, of sends refused for their count or beside
+/// it, and of check sequences that arrive or are appended.
+const STEERED_INTO: [&str; 5] = [
+    "waiting request",
+    "byte count",
+    "| send 1",
+    "check sequence",
+    "what they append",
+];
 
 /// Whatever these can meet, the streams of tests/compare let them meet.
 #[test]

@@ -108,7 +108,7 @@ fn a_send_and_a_tail_of_one() {
     let ready_and = |input: &[u8]| [records.as_flattened(), input].concat();
     assert_eq!(
         lines(&["--watch"], &ready_and(&[7, 0, 0, 0, 0, 0, 0, 0])),
-        format!("{ready}8 0 0006 0 fe0900000000\n")
+        format!("{ready}8 0 000a 0 fe0900000000bbbb4a93\n")
     );
     assert_eq!(
         lines(&["--watch"], &ready_and(&[7, 0, 0, 0, 0, 0, 0])),

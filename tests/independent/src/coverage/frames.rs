@@ -1,15 +1,16 @@
 //! Frames: their lengths and values, why they are accepted, how they are stored.
 
+use super::checks;
 use super::tables::{Part, Tables};
 use super::{pages_name, pieces_name, Seen};
 use crate::address::MacAddress;
 use crate::bench::numbers;
 use crate::chip::{control, rcr, Chip};
+use crate::crc;
 use crate::frame::{byte_count, pages_needed};
 use crate::memory::{Layout, PacketAddress, PacketNumber};
 
-/// Flags of a frame's end, as byte 1 of its record has them.
-const BAD_CRC: u8 = 1;
+/// The flag of a frame's end, as byte 1 of its record has it.
 const ALIGNMENT: u8 = 2;
 
 pub fn count(tables: &mut Tables, seen: &Seen) {
@@ -28,6 +29,9 @@ pub fn count(tables: &mut Tables, seen: &Seen) {
     count_order(tables, seen, value, &name);
     if receiving {
         count_acceptance(tables, seen);
+    }
+    if let 0 | 4 | 5 = value {
+        checks::count(tables, seen, value);
     }
     match value {
         0 => count_stored(tables, seen),
@@ -68,11 +72,11 @@ fn count_order(tables: &mut Tables, seen: &Seen, value: u16, name: &str) {
 }
 
 fn bad_reasons(seen: &Seen) -> Vec<&'static str> {
-    let flags = seen.record[1];
+    let frame = seen.before.gathered.as_slice();
     let reasons = [
-        (flags & BAD_CRC != 0, "bad CRC alone"),
-        (flags & ALIGNMENT != 0, "alignment alone"),
-        (seen.before.gathered.len() < 64, "under 64 alone"),
+        (crc::is_bad(frame), "bad CRC alone"),
+        (seen.record[1] & ALIGNMENT != 0, "alignment alone"),
+        (frame.len() < 64, "under 64 alone"),
     ];
     let holding = reasons.into_iter().filter(|(holds, _)| *holds);
     holding.map(|(_, name)| name).collect()

@@ -2,6 +2,7 @@
 //! a comparison can be shown to have met every rule.
 
 mod accesses;
+mod checks;
 mod commands;
 mod counts;
 mod data;

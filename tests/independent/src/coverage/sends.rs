@@ -137,10 +137,13 @@ fn count_put_out(tables: &mut Tables, seen: &Seen, packet: PacketNumber) {
     };
     let row = put_out_name(seen, data);
     let pads = before.registers.tcr & tcr::PAD_EN != 0;
-    tables.count(Part::PutOut, row, padding_name(pads, data));
-    if pads && (59..=61).contains(&data) {
-        tables.count(Part::PutOut, "data to be padded", data.to_string());
+    let padded = before.padded_length(packet);
+    tables.count(Part::PutOut, row, padding_name(pads, data, padded));
+    if pads && (padded - 1..=padded + 1).contains(&data) {
+        let row = format!("data to be padded to {padded}");
+        tables.count(Part::PutOut, row, data.to_string());
     }
+    count_appended(tables, seen, packet, data);
     let pages = before.packets.pages(packet);
     let used = &pages[..(4 + data).div_ceil(256)];
     tables.count(Part::PutOut, pages_name(used.len()), pieces_name(used));
@@ -158,13 +161,49 @@ pub fn put_out_name(seen: &Seen, data: usize) -> String {
     format!("{} {odd}", verdict_name(seen))
 }
 
-fn padding_name(pads: bool, data: usize) -> &'static str {
-    match (pads, data < 60) {
-        (true, true) => "padded",
-        (false, true) => "short",
-        (true, false) => "60 or more with PAD",
-        (false, false) => "60 or more",
+fn padding_name(pads: bool, data: usize, padded: usize) -> &'static str {
+    match pads {
+        true if data < padded => "padded",
+        true => "long enough for PAD",
+        false if data < 60 => "short",
+        false => "60 or more",
     }
+}
+
+/// "A send appends four FCS bytes unless TCR bit 8 (NOCRC) is set and bit 4 of
+/// the packet's control byte is clear".
+fn count_appended(tables: &mut Tables, seen: &Seen, packet: PacketNumber, data: usize) {
+    let before = &seen.before.chip;
+    let bits = those(&[
+        (before.registers.tcr & tcr::NOCRC != 0, "NOCRC"),
+        (before.control_byte(packet) & 0x10 != 0, "control bit 4"),
+        (before.registers.tcr & tcr::PAD_EN != 0, "PAD"),
+    ]);
+    let row = match bits[..] {
+        [] => "no bit".into(),
+        _ => bits.join(", "),
+    };
+    tables.count(Part::Appended, row, data_name(data));
+    let appended = match before.appends_fcs(packet) {
+        true => "with FCS",
+        false => "without FCS",
+    };
+    tables.count(Part::Appended, appended, verdict_name(seen));
+    tables.count(Part::Appended, appended, fate_name(seen));
+    if data == 2_043 {
+        tables.count(Part::Appended, appended, "the longest data");
+    }
+}
+
+/// Either side of 60 and 64.
+fn data_name(data: usize) -> String {
+    let odd = if data % 2 == 1 { "odd" } else { "even" };
+    let length = match data {
+        0..60 => "under 60",
+        60..64 => "60 to 63",
+        _ => "64 or more",
+    };
+    format!("{odd}, {length}")
 }
 
 /// The output buffer behind what was put out.

@@ -5,9 +5,9 @@ use super::sends;
 use crate::address::MacAddress;
 use crate::chip::{control, rcr, Pointer};
 use crate::places::*;
+use crate::wire::Check;
 
-/// Flags of a frame's end.
-const BAD_CRC: u8 = 1;
+/// The flag of a frame's end.
 const ALIGNMENT: u8 = 2;
 
 const STATION: MacAddress = MacAddress([0x02, 0x13, 0x9a, 0x40, 0xc5, 0xe7]);
@@ -161,9 +161,11 @@ pub fn lengths_dropped(script: &mut Script) {
         script.frame(STATION, length, 0);
         script.put(RCR, rcr::RXEN);
         script.frame(one_bit_off(STATION, 30), length, 0);
-        script.put(CONTROL, 0);
-        script.frame(STATION, length, BAD_CRC);
-        script.put(CONTROL, control::RECEIVE_BAD);
+        if length < 130 {
+            script.put(CONTROL, 0);
+            script.checked_frame(STATION, length, Check::Any, 0);
+            script.put(CONTROL, control::RECEIVE_BAD);
+        }
         script.put(RESERVED, 24);
         script.frame(STATION, length, 0);
         script.put(RESERVED, 0);
@@ -171,7 +173,7 @@ pub fn lengths_dropped(script: &mut Script) {
     script.put(CONTROL, 0);
     script.frame(STATION, 63, 0);
     script.frame(STATION, 64, ALIGNMENT);
-    script.frame(STATION, 64, BAD_CRC | ALIGNMENT);
+    script.checked_frame(STATION, 64, Check::Any, ALIGNMENT);
     script.frame(STATION, 64, 0xfc);
 }
 
@@ -180,12 +182,12 @@ pub fn values_at_once(script: &mut Script) {
     set_station(script, STATION);
     script.put(RESERVED, 24);
     let other = one_bit_off(STATION, 3);
-    script.frame(other, 1_533, BAD_CRC);
+    script.checked_frame(other, 1_533, Check::Any, 0);
     script.put(RCR, rcr::RXEN);
-    script.frame(other, 1_533, BAD_CRC);
-    script.frame(STATION, 64, BAD_CRC);
+    script.checked_frame(other, 1_533, Check::Any, 0);
+    script.checked_frame(STATION, 64, Check::Any, 0);
     script.get(RCR);
-    script.frame(STATION, 1_600, BAD_CRC);
+    script.checked_frame(STATION, 1_600, Check::Any, 0);
     script.get(RCR);
     script.get(INTERRUPT);
 }
@@ -196,18 +198,18 @@ pub fn stored(script: &mut Script) {
     let group = address(script, true, 43);
     set_table(script, 1 << 43);
     let frames = [
-        (STATION, 64, 0),
-        (STATION, 64, ALIGNMENT),
-        (STATION, 64, BAD_CRC),
-        (STATION, 65, 0),
-        (STATION, 62, 0),
-        (MacAddress::BROADCAST, 64, 0),
-        (group, 64, 0),
-        (group, 63, BAD_CRC | ALIGNMENT),
-        (MacAddress::BROADCAST, 63, BAD_CRC),
+        (STATION, 64, Check::Right, 0),
+        (STATION, 64, Check::Right, ALIGNMENT),
+        (STATION, 64, Check::Any, 0),
+        (STATION, 65, Check::Right, 0),
+        (STATION, 62, Check::Right, 0),
+        (MacAddress::BROADCAST, 64, Check::Right, 0),
+        (group, 64, Check::Right, 0),
+        (group, 63, Check::Any, ALIGNMENT),
+        (MacAddress::BROADCAST, 63, Check::Any, 0),
     ];
-    for (destination, length, flags) in frames {
-        script.frame(destination, length, flags);
+    for (destination, length, check, flags) in frames {
+        script.checked_frame(destination, length, check, flags);
     }
     for _ in frames {
         look(script);
@@ -273,7 +275,7 @@ pub fn too_long(script: &mut Script) {
     script.frame(STATION, 1_533, 0);
     script.get(RCR);
     script.get(INTERRUPT);
-    script.gather(STATION, 2_046);
+    script.gather(STATION, 2_046, Check::Any);
     let _ = script.say(&[5, 3]);
     let _ = script.say(&[5, 2]);
     for count in 1..=6 {

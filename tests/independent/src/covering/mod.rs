@@ -2,6 +2,7 @@
 //! tests/definitions/cells: scripted scenarios, with random bytes where the
 //! rules do not care.
 
+mod checks;
 mod commands;
 mod counters;
 mod data;
@@ -14,7 +15,7 @@ mod sends;
 mod waiting;
 
 use crate::bench::Record;
-use crate::chip::control;
+use crate::chip::{control, tcr};
 use script::Script;
 use waiting::Giver;
 
@@ -73,6 +74,17 @@ const SCENARIOS: &[(&str, Scenario)] = &[
     ("waiting-meetings", waiting::meetings),
     ("waiting-dropped", waiting::dropped),
     ("send-counts", sends::counts),
+    ("check-found", |script| checks::found(script, 0)),
+    ("check-stored", |script| {
+        checks::found(script, control::RECEIVE_BAD)
+    }),
+    ("check-beside", checks::beside),
+    ("check-stripped", checks::stripped),
+    ("append", |script| checks::appended(script, 0)),
+    ("append-padded", |script| {
+        checks::appended(script, tcr::PAD_EN)
+    }),
+    ("echo", checks::echoed),
 ];
 
 /// Every stream by its name.

@@ -7,6 +7,7 @@ use crate::chip::{Chip, Pointer};
 use crate::memory::PacketNumber;
 use crate::places::*;
 use crate::random::Random;
+use crate::wire::{self, Check};
 
 /// How an access is made.
 #[derive(Clone, Copy, Debug, PartialEq, Eq)]
@@ -163,11 +164,17 @@ impl Script {
         self.access(Way::WriteByte, DATA.1, byte.into());
     }
 
-    /// Gathers so many random bytes behind a destination address.
-    pub fn gather(&mut self, destination: MacAddress, length: usize) {
+    /// Gathers so many random bytes behind a destination address, with the check
+    /// as their end.
+    pub fn gather(&mut self, destination: MacAddress, length: usize, check: Check) {
         let mut frame: Vec<u8> = (0..length).map(|_| self.random.byte()).collect();
         let known = length.min(6);
         frame[..known].copy_from_slice(&destination.0[..known]);
+        wire::end(&mut frame, check);
+        self.gather_bytes(&frame);
+    }
+
+    fn gather_bytes(&mut self, frame: &[u8]) {
         for piece in frame.chunks(6) {
             let mut bytes = vec![5, piece.len() as u8];
             bytes.extend(piece);
@@ -175,10 +182,28 @@ impl Script {
         }
     }
 
-    /// A frame with the flags of its end.
+    /// A frame with a right FCS, and the flags of its end.
     pub fn frame(&mut self, destination: MacAddress, length: usize, flags: u8) {
-        self.gather(destination, length);
+        self.checked_frame(destination, length, Check::Right, flags);
+    }
+
+    /// A frame with an FCS that is right or wrong.
+    pub fn checked_frame(
+        &mut self,
+        destination: MacAddress,
+        length: usize,
+        check: Check,
+        flags: u8,
+    ) {
+        self.gather(destination, length, check);
         let _ = self.say(&[6, flags]);
+    }
+
+    /// What the last send put out, so many bytes, comes back as a frame.
+    pub fn echo(&mut self, length: usize) {
+        let frame = self.bench.output[..length].to_vec();
+        self.gather_bytes(&frame);
+        let _ = self.say(&[6, 0]);
     }
 
     /// A packet of random bytes that holds a frame of n bytes, out of RX.

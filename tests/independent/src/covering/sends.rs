@@ -6,23 +6,26 @@ use crate::chip::{control, interrupt, rcr, tcr};
 use crate::places::*;
 
 /// "if bit 5 of the byte at c − 1 is set": the data is odd.
-const ODD: u8 = 0x20;
+pub const ODD: u8 = 0x20;
+/// "bit 4 of the packet's control byte": an FCS even with NOCRC.
+pub const CRC: u8 = 0x10;
 
-fn set_up(script: &mut Script) {
+/// Receives damaged frames too, and may send.
+pub fn set_up(script: &mut Script) {
     script.put(CONTROL, control::RECEIVE_BAD);
     script.put(RCR, rcr::RXEN);
     script.enable(0);
 }
 
-/// Byte count and control byte of the chosen packet.
-fn set_count(script: &mut Script, count: u16, odd: u8) {
+/// Byte count and the control byte's two bits, of the chosen packet.
+pub fn set_count(script: &mut Script, count: u16, bits: u8) {
     script.load(2, &[count]);
-    let noise = script.random.byte() & !ODD;
-    script.load_byte(count - 1, noise | odd);
+    let noise = script.random.byte() & !(ODD | CRC);
+    script.load_byte(count - 1, noise | bits);
 }
 
 /// The chosen packet, sent and acknowledged.
-fn send_chosen(script: &mut Script, outcome: u8) {
+pub fn send_chosen(script: &mut Script, outcome: u8) {
     script.command(ENQUEUE);
     script.send(outcome, 0, 0);
     script.acknowledge(interrupt::COMPLETION);
@@ -36,7 +39,7 @@ pub fn put_out(script: &mut Script) {
     script.choose(packet);
     send_chosen(script, 0);
     for (pad, outcome) in [(0, 0), (0, 2), (tcr::PAD_EN, 0), (tcr::PAD_EN, 5)] {
-        for (count, odd) in [12, 64, 66, 120]
+        for (count, odd) in [12, 64, 66, 72]
             .into_iter()
             .flat_map(|count| [(count, 0), (count, ODD)])
         {
@@ -84,7 +87,7 @@ pub fn make_gaps(script: &mut Script) {
     }
 }
 
-/// Eight pages, all of them used.
+/// Eight pages, all of them used, with FCS and without.
 pub fn put_out_most(script: &mut Script) {
     set_up(script);
     let packet = script.allocate(8);
@@ -94,6 +97,8 @@ pub fn put_out_most(script: &mut Script) {
         script.load(address, &words);
     }
     set_count(script, 2_048, ODD);
+    send_chosen(script, 0);
+    script.enable(tcr::NOCRC);
     send_chosen(script, 0);
 }
 

@@ -14,7 +14,7 @@ impl Generator {
             12..=13 => size - self.random.pick(&[0, 2, 4]),
             14 => self
                 .random
-                .pick(&[12, 14, 64, 66, 68, 256, 258, 2_046, 2_048]),
+                .pick(&[12, 14, 64, 66, 68, 70, 256, 258, 2_046, 2_048]),
             15..=18 => self.unusable_count(size),
             _ => usize::from(self.random.word()),
         }
@@ -22,9 +22,9 @@ impl Generator {
 
     /// "13 odd, 18 under 12, 19 past the pages", and 13 that hides another.
     fn unusable_count(&mut self, size: usize) -> usize {
-        match self.random.between(0, 12) {
-            0..=2 => self.random.pick(&[0, 0, 2, 4, 6, 8, 10, 10, 10]),
-            3..=4 => self.random.pick(&[1, 3, 5, 7, 9, 11, 11, 11]),
+        match self.random.between(0, 14) {
+            0..=2 => self.random.pick(&[0, 0, 2, 4, 6, 8, 10, 10]),
+            3..=4 | 13..=14 => self.random.pick(&[1, 3, 5, 7, 9, 11, 11]),
             5 => self.random.pick(&[13, 13, 15, size - 1, size - 1]),
             6 => 2 * self.random.between(6, size / 2 - 1) + 1,
             7 => size + self.random.pick(&[1, 1, 3, 255]),
@@ -72,6 +72,27 @@ impl Generator {
             self.enable_tx();
         }
         self.send_as_is();
+    }
+
+    /// A packet is released and granted anew, and sent with the unusable count
+    /// that its earlier owner left: nobody has written it since.
+    pub fn inherit_count(&mut self) {
+        self.make_room(1);
+        for step in [RELEASE, ENQUEUE] {
+            self.command(ALLOCATE);
+            let Some(packet) = self.chip().registers.result else {
+                return;
+            };
+            self.select_packet(packet.get());
+            if step == RELEASE {
+                let count = self.unusable_count(256);
+                self.load_words(2, &[count as u16]);
+            }
+            self.command(step);
+        }
+        self.enable_tx();
+        self.send_as_is();
+        self.repair_head();
     }
 
     /// A count that was usable or not is rewritten in TX, one fault after

@@ -1,6 +1,7 @@
 //! Deep streams of records, steered by a bench of the generator's own so that
 //! packets fill, queues back up and counters stop before anything is reset.
 
+mod checks;
 mod counts;
 mod driver;
 mod probe;
@@ -47,13 +48,17 @@ type Scene = (usize, fn(&mut Generator));
 const SCENES: &[Scene] = &[
     (40, Generator::transmit),
     (14, Generator::send_again),
-    (14, Generator::rewrite_counts),
+    (24, Generator::rewrite_counts),
+    (3, Generator::inherit_count),
     (30, Generator::short_frame),
     (4, Generator::middling_frame),
     (3, Generator::long_frame),
+    (8, Generator::judged_frames),
+    (9, Generator::send_near_padding),
+    (6, Generator::hear_echo),
     (22, Generator::drain),
     (16, Generator::configure_some),
-    (34, Generator::walk_pointer),
+    (38, Generator::walk_pointer),
     (8, Generator::cross_border),
     (4, Generator::wrap_pointer),
     (14, Generator::shuffle_packets),
@@ -98,6 +103,7 @@ pub struct Generator {
     reading: Reading,
     records: Vec<Record>,
     wanted: usize,
+    last_put_out: Vec<u8>,
 }
 
 impl Generator {
@@ -108,6 +114,7 @@ impl Generator {
             reading,
             records: Vec::with_capacity(wanted),
             wanted,
+            last_put_out: Vec::new(),
         }
     }
 
@@ -159,8 +166,10 @@ impl Generator {
         if self.records.len() < self.wanted {
             self.records.push(record);
         }
-        // What came of it shows in the chip.
-        let _ = self.bench.step(&record);
+        let answer = self.bench.step(&record);
+        if let Some(bytes) = self.bench.put_out(record[0], answer) {
+            self.last_put_out = bytes.to_vec();
+        }
     }
 
     /// Emits a record from its leading bytes. "Unused bytes are ignored", so

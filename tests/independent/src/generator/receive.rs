@@ -5,6 +5,7 @@ use super::Generator;
 use crate::address::MacAddress;
 use crate::chip::{control, rcr, Pointer};
 use crate::memory::{Layout, PacketNumber};
+use crate::wire::{self, Check};
 
 impl Generator {
     pub fn short_frame(&mut self) {
@@ -61,11 +62,12 @@ impl Generator {
         if !self.bench.gathered.is_empty() && !self.random.one_in(4) {
             self.say(&[6]); // stray bytes would shift the destination
         }
-        self.gather(destination, length);
+        let check = self.check(length);
+        self.gather(destination, length, check);
         self.end_and_look();
     }
 
-    fn end_and_look(&mut self) {
+    pub fn end_and_look(&mut self) {
         let before = self.chip().rx.len();
         self.end_frame();
         if self.chip().rx.len() > before && !self.random.one_in(3) {
@@ -80,25 +82,37 @@ impl Generator {
         }
     }
 
+    /// So many random bytes behind a destination address, with the check as
+    /// their end; it is that of all that is gathered then.
+    pub fn gather(&mut self, destination: MacAddress, length: usize, check: Check) {
+        let mut frame = self.bench.gathered.as_slice().to_vec();
+        let stray = frame.len();
+        frame.extend(destination.0.into_iter().take(length));
+        frame.resize_with(stray + length, || self.random.byte());
+        let check = match check {
+            Check::Changed(place, bits) => Check::Changed(stray + place, bits),
+            other => other,
+        };
+        wire::end(&mut frame, check);
+        self.gather_bytes(&frame[stray..]);
+    }
+
     /// Kind 5 records: six bytes each, or fewer when the frame is short.
-    pub fn gather(&mut self, destination: MacAddress, length: usize) {
-        let even_pieces = length > 200 || !self.random.one_in(8);
-        let mut sent = 0;
-        while sent < length {
-            let most = (length - sent).min(6);
+    pub fn gather_bytes(&mut self, mut left: &[u8]) {
+        let even_pieces = left.len() > 200 || !self.random.one_in(8);
+        while !left.is_empty() {
+            let most = left.len().min(6);
             let count = match even_pieces {
                 true => most,
                 false => self.random.between(1, most),
             };
+            let (piece, behind) = left.split_at(count);
             let mut bytes = [0; 8];
             bytes.fill_with(|| self.random.byte());
-            for at in sent..(sent + count).min(6) {
-                bytes[2 + at - sent] = destination.0[at];
-            }
-            bytes[0] = 5;
-            bytes[1] = count as u8;
+            bytes[..2].copy_from_slice(&[5, count as u8]);
+            bytes[2..2 + count].copy_from_slice(piece);
             self.emit(bytes);
-            sent += count;
+            left = behind;
             if self.random.one_in(150) {
                 self.wrong_count();
             }
@@ -114,7 +128,7 @@ impl Generator {
         self.say(&[5, count]);
     }
 
-    /// Long frames are rare, so more of them are flagged.
+    /// Long frames are rare, so more of them are flagged. "bit 0 .. ignored".
     fn end_frame(&mut self) {
         let kinds = match self.bench.gathered.len() {
             0..=1_500 => 15,
@@ -242,7 +256,8 @@ impl Generator {
         for _ in 0..30 {
             let length = self.random.pick(&[18, 20, 24, 40, 64, 65, 130, 252, 256]);
             let destination = self.destination();
-            self.gather(destination, length);
+            let check = self.check(length);
+            self.gather(destination, length, check);
             let before = self.chip().rx.len();
             self.say(&[6]);
             if self.chip().rx.len() == before {
@@ -273,7 +288,8 @@ impl Generator {
         let destination = self.destination();
         let room = 2_048 - self.bench.gathered.len();
         let short = self.random.between(0, room.min(3));
-        self.gather(destination, room - short);
+        let check = self.check(room - short);
+        self.gather(destination, room - short, check);
         for _ in 0..self.random.between(2, 4) {
             let count = self.random.between(1, 6) as u8;
             self.say(&[5, count]);

@@ -79,6 +79,7 @@ impl Generator {
     fn set_tcr(&mut self) {
         let chances = [
             (tcr::PAD_EN, 2),
+            (tcr::NOCRC, 2),
             (tcr::MON_CSN, 2),
             (tcr::STP_SQET, 2),
             (tcr::FDSE, 3),

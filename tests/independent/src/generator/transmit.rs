@@ -19,7 +19,7 @@ impl Generator {
 
     pub fn load_and_enqueue(&mut self, packet: PacketNumber) {
         self.select_packet(packet.get());
-        if !self.random.one_in(8) {
+        if !self.random.one_in(6) {
             self.load(packet);
         }
         self.command(ENQUEUE);
@@ -49,7 +49,7 @@ impl Generator {
     }
 
     /// A granted packet, or one that lies idle.
-    fn obtain_packet(&mut self) -> Option<PacketNumber> {
+    pub fn obtain_packet(&mut self) -> Option<PacketNumber> {
         if self.random.one_in(3) {
             if let Some(packet) = self.pick_idle() {
                 return Some(packet);
@@ -100,7 +100,7 @@ impl Generator {
     pub fn load_control(&mut self, count: usize) {
         let byte = self
             .random
-            .pick(&[0x00, 0x20, 0x20, 0x40, 0x60, 0x10, 0xdf, 0xff]);
+            .pick(&[0x00, 0x20, 0x20, 0x40, 0x60, 0x10, 0x30, 0xdf, 0xff]);
         if count.is_multiple_of(2) && self.random.one_in(2) {
             let before = u16::from(self.random.byte());
             self.point(self.maybe_increment(), count - 2);

@@ -6,6 +6,7 @@ use super::Generator;
 use crate::address::MacAddress;
 use crate::chip::{control, interrupt, rcr, tcr};
 use crate::memory::{Layout, PacketNumber};
+use crate::wire::Check;
 
 /// What gives pages back.
 #[derive(Clone, Copy)]
@@ -96,13 +97,13 @@ impl Generator {
         if !self.bench.gathered.is_empty() {
             self.say(&[6]); // stray bytes would shift the destination
         }
-        self.gather(MacAddress::BROADCAST, length);
+        self.gather(MacAddress::BROADCAST, length, Check::Right);
         self.say(&[6, 0]);
     }
 
     /// Reserves so little that a frame of so many pages is stored, if they are
     /// free.
-    fn admit(&mut self, pages: usize) {
+    pub fn admit(&mut self, pages: usize) {
         let reserved = usize::from(self.chip().registers.reserved);
         let free = self.free_pages();
         if (pages..pages + reserved).contains(&free) {

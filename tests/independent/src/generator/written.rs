@@ -8,6 +8,7 @@ use crate::bench::Record;
 use crate::chip::{control, rcr, tcr, Pointer};
 use crate::memory::{Layout, PacketAddress, PacketNumber, STRIP_SIZE};
 use crate::reads::Bytes;
+use crate::wire::Check;
 
 /// Which bytes the records of a stream may read.
 #[derive(Clone, Copy, Debug, PartialEq, Eq)]
@@ -210,7 +211,7 @@ impl Generator {
         }
         let destination = self.destination();
         let length = 256 * pages - self.random.between(8, 200);
-        self.gather(destination, length);
+        self.gather(destination, length, Check::Right);
         self.say(&[6, 0]);
         if let Some(packet) = self.chip().rx.head() {
             self.command(REMOVE_RX);
@@ -235,7 +236,7 @@ impl Generator {
     }
 
     /// Sends a few times, until the packet has left TX.
-    fn send_until_done(&mut self, packet: PacketNumber) {
+    pub fn send_until_done(&mut self, packet: PacketNumber) {
         for _ in 0..4 {
             if !self.chip().tx.contains(packet) {
                 return;

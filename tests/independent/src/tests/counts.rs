@@ -62,11 +62,12 @@ const IN_ONE_PAGE: [(u16, u8); 22] = [
 ];
 
 /// "We want them told apart, and the offending count as the answer's value in
-/// all three." Where there is none the value is the length, c − 6.
+/// all three." Where there is none the value is the length, c − 6, and the
+/// four bytes of the FCS.
 #[test]
 fn counts_either_side_of_each_limit() {
     for (count, number) in IN_ONE_PAGE {
-        let value = if number == 0 { count - 6 } else { count };
+        let value = if number == 0 { count - 6 + 4 } else { count };
         let mut bench = queued(1);
         assert_eq!(send_with(&mut bench, count), (number, value), "{count}");
     }
@@ -86,7 +87,7 @@ fn the_last_count_within_the_pages() {
             let answer = send_with(&mut queued(pages), count);
             assert_eq!(answer, (number, count), "{count} in {pages} pages");
         }
-        assert_eq!(send_with(&mut queued(pages), size), (0, size - 6));
+        assert_eq!(send_with(&mut queued(pages), size), (0, size - 6 + 4));
     }
 }
 
@@ -100,10 +101,10 @@ fn a_count_never_written_is_under_12() {
 #[test]
 fn the_order_of_sends() {
     let mut bench = queued(1);
-    assert_eq!(send_with(&mut bench, 12), (0, 6));
+    assert_eq!(send_with(&mut bench, 12), (0, 10));
     for _ in 1..24 {
         put(&mut bench.chip, COMMAND, ENQUEUE);
-        assert_eq!(send(&mut bench), (0, 6));
+        assert_eq!(send(&mut bench), (0, 10));
     }
     put(&mut bench.chip, COMMAND, ENQUEUE);
     for (count, number) in [(13, 13), (11, 13), (257, 13), (10, 18), (258, 19)] {
@@ -119,7 +120,7 @@ fn the_order_of_sends() {
     // released at once, a good send needs no place, but still a count
     put(&mut bench.chip, CONTROL, 0x0800);
     assert_eq!(send_with(&mut bench, 258), (19, 258));
-    assert_eq!(send_with(&mut bench, 12), (0, 6));
+    assert_eq!(send_with(&mut bench, 12), (0, 10));
 }
 
 /// Registers, pool, memory and output buffer.
@@ -134,7 +135,7 @@ fn whole(bench: &Bench) -> (Vec<u32>, Vec<u32>, Vec<u8>, [u8; OUTPUT_SIZE]) {
 #[test]
 fn a_refused_count_changes_nothing() {
     let mut bench = queued(2);
-    assert_eq!(send_with(&mut bench, 300), (0, 294));
+    assert_eq!(send_with(&mut bench, 300), (0, 298));
     put(&mut bench.chip, COMMAND, ENQUEUE);
     put(&mut bench.chip, (2, 0xc), 0x0204); // TX EMPTY acknowledged
     bench.output.fill(0xa5);
@@ -155,8 +156,10 @@ fn a_refused_count_changes_nothing() {
             assert!(whole(&bench) == before, "{count}, outcome {}", end[0]);
         }
     }
-    assert_eq!(send_with(&mut bench, 12), (0, 6));
-    assert_eq!(bench.output[..7], [0, 0, 0, 0, 0, 0, 0xa5]);
+    assert_eq!(send_with(&mut bench, 12), (0, 10));
+    assert_eq!(bench.output[..6], [0; 6]);
+    // zlib's FCS, and what was there before
+    assert_eq!(bench.output[6..11], [0xa3, 0xa1, 0xc2, 0xb1, 0xa5]);
     assert_eq!(get(&mut bench.chip, HEADS), 0x8000);
 }
 
@@ -171,7 +174,7 @@ fn the_count_is_the_one_that_stands_there_now() {
     assert_eq!(send(&mut bench), (19, 0x010a));
     bench.chip.write(Byte, 0x8, 0xfe).unwrap();
     assert_eq!(send(&mut bench), (19, 0xfe0a));
-    assert_eq!(send_with(&mut bench, 12), (0, 6));
+    assert_eq!(send_with(&mut bench, 12), (0, 10));
     put(&mut bench.chip, COMMAND, ENQUEUE);
     assert_eq!(send_with(&mut bench, 11), (13, 11), "it was usable before");
     assert_eq!(word_at(&mut bench.chip, LOOK | 2), 11);
@@ -190,13 +193,13 @@ fn the_count_is_that_of_the_tx_head() {
         put(&mut bench.chip, COMMAND, ENQUEUE);
     }
     put(&mut bench.chip, PACKET, 2);
-    assert_eq!(send(&mut bench), (0, 8));
+    assert_eq!(send(&mut bench), (0, 12));
     assert_eq!(send(&mut bench), (19, 600));
     put(&mut bench.chip, PACKET, 1);
-    assert_eq!(send_with(&mut bench, 512), (0, 506));
+    assert_eq!(send_with(&mut bench, 512), (0, 510));
     assert_eq!(send(&mut bench), (13, 15));
     put(&mut bench.chip, PACKET, 2);
-    assert_eq!(send_with(&mut bench, 16), (0, 10));
+    assert_eq!(send_with(&mut bench, 16), (0, 14));
     assert_eq!(send(&mut bench), (18, 2));
 }
 

@@ -38,7 +38,7 @@ fn streams_meet_every_answer() {
 fn streams_meet_many_unusable_counts() {
     let mut bench = Bench::default();
     let mut values: BTreeMap<u8, BTreeSet<u16>> = BTreeMap::new();
-    for record in generator::records(1, 50_000) {
+    for record in generator::records(1, 100_000) {
         let (answer, value) = numbers(bench.step(&record));
         values.entry(answer).or_default().insert(value);
     }

@@ -99,7 +99,7 @@ fn the_promise_after_each_record() {
 fn data_reads_of_other_bytes_differ() {
     let mut pair = Pair::default();
     let mut differ = 0;
-    for record in generator::records_reading(Reading::WrittenBySends, 1, 20_000) {
+    for record in generator::records_reading(Reading::WrittenBySends, 1, 30_000) {
         let (paged, strips) = pair.step(&record);
         differ += usize::from(paged != strips);
     }
@@ -240,11 +240,15 @@ fn counterexample(records: &[&[u8]], expected: std::ops::Range<u16>) -> [String;
 }
 
 /// The paged chip finds a count of 0 on page 2, the strip chip 12 in strip 1.
+/// (The FCS here and below are those of Python's zlib.)
 #[test]
 fn a_send_with_an_unwritten_count_gets_another_answer() {
     let [paged, strips] = counterexample(&[PACKET_1, ENQUEUE, &[7]], 2..4);
     assert_eq!(paged, "14 0 0000 0\n15 0 0000 0\n16 18 0000 0");
-    assert_eq!(strips, "14 0 0000 0\n15 0 0000 0\n16 0 0006 0 ffff00000000");
+    assert_eq!(
+        strips,
+        "14 0 0000 0\n15 0 0000 0\n16 0 000a 0 ffff00000000e3cd629f"
+    );
 }
 
 /// Count and control byte are written, and the data is not.
@@ -261,6 +265,6 @@ fn a_send_of_unwritten_data_puts_out_other_bytes() {
     ];
     let [paged, strips] = counterexample(&records, 4..10);
     let same = "14 0 0000 0\n15 0 0000 0\n16 0 0000 0\n17 0 0000 0\n18 0 0000 0\n19 0 0000 0\n";
-    assert_eq!(paged, format!("{same}20 0 0006 0 000000000000"));
-    assert_eq!(strips, format!("{same}20 0 0006 0 ffff00000000"));
+    assert_eq!(paged, format!("{same}20 0 000a 0 000000000000a3a1c2b1"));
+    assert_eq!(strips, format!("{same}20 0 000a 0 ffff00000000e3cd629f"));
 }

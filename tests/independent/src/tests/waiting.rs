@@ -1,11 +1,11 @@
 //! "An allocation that waits".
 
-use super::{allocate, get, put, record, result, send, word_at};
+use super::{allocate, frame_of, get, put, record, result, send, word_at};
 use super::{
     COMMAND, CONTROL, DATA, ENQUEUE, LOAD, LOOK, MIR, PACKET, POINTER, RCR, RELEASE_RX, TCR,
 };
 use crate::chip::Chip;
-use crate::frame::{Arrival, Flags};
+use crate::frame::Arrival;
 use crate::memory::PacketNumber;
 use crate::refusal::Refusal;
 use crate::registers::Width::Word;
@@ -70,7 +70,7 @@ fn receive(chip: &mut Chip) {
 }
 
 fn arrive(chip: &mut Chip, length: usize) -> Arrival {
-    chip.arrive(&vec![0; length], Flags::default()).unwrap()
+    chip.arrive(&frame_of(length), false).unwrap()
 }
 
 /// Puts the packet into TX with a usable count.
@@ -224,7 +224,7 @@ fn a_good_send_with_auto_release_grants() {
     let mut chip = waiting_for(2);
     put(&mut chip, CONTROL, AUTO_RELEASE);
     enqueue(&mut chip, 3);
-    assert_eq!(send(&mut chip, 0, 0, 0), Ok(6));
+    assert_eq!(send(&mut chip, 0, 0, 0), Ok(10));
     granted(&mut chip, 3, &[22, 23]);
     assert!(chip.completion.is_empty());
     assert_eq!(word_at(&mut chip, LOOK), 0x0001, "EPHSR stands in the page");
@@ -237,7 +237,7 @@ fn other_sends_leave_the_request() {
         let mut chip = waiting_for(2);
         put(&mut chip, CONTROL, control);
         enqueue(&mut chip, 3);
-        assert_eq!(send(&mut chip, outcome, 0, 0), Ok(6));
+        assert_eq!(send(&mut chip, outcome, 0, 0), Ok(10));
         waits(&mut chip, 2);
         release(&mut chip, 3);
         granted(&mut chip, 3, &[22, 23]);

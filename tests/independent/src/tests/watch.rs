@@ -77,31 +77,31 @@ fn watched_after(mut ready: Vec<Record>, records: &[&[u8]]) -> String {
 }
 
 /// "a space and the bytes put out as lower-case hex digits": ten bytes or, with
-/// bit 5 of the control byte, eleven.
+/// bit 5 of the control byte, eleven, and their FCS (here and below zlib's).
 #[test]
 fn a_send_shows_its_bytes() {
     let even = watched_after(ready(0x01, 0xdf), &[&[7]]);
-    assert_eq!(even, "14 0 000a 1 0123456789abcdef0ff0\n");
+    assert_eq!(even, "14 0 000e 1 0123456789abcdef0ff0cea7acba\n");
     let odd = watched_after(ready(0x01, 0x20), &[&[7]]);
-    assert_eq!(odd, "14 0 000b 1 0123456789abcdef0ff05a\n");
+    assert_eq!(odd, "14 0 000f 1 0123456789abcdef0ff05a7714da25\n");
 }
 
-/// "With TCR bit 7 shorter data is padded by zeros to 60."
+/// "padding goes to 60 before an FCS".
 #[test]
-fn a_padded_send_shows_sixty_bytes() {
-    let even = "14 0 003c 1 0123456789abcdef0ff0\
+fn a_padded_send_shows_sixty_bytes_and_their_fcs() {
+    let even = "14 0 0040 1 0123456789abcdef0ff0\
                 00000000000000000000\
                 00000000000000000000\
                 00000000000000000000\
                 00000000000000000000\
-                00000000000000000000\n";
+                00000000000000000000368959eb\n";
     assert_eq!(watched_after(ready(0x81, 0x00), &[&[7]]), even);
-    let odd = "14 0 003c 1 0123456789abcdef0ff0\
+    let odd = "14 0 0040 1 0123456789abcdef0ff0\
                5a000000000000000000\
                00000000000000000000\
                00000000000000000000\
                00000000000000000000\
-               00000000000000000000\n";
+               00000000000000000000b21d7a54\n";
     assert_eq!(watched_after(ready(0x81, 0x20), &[&[7]]), odd);
 }
 
@@ -109,23 +109,26 @@ fn a_padded_send_shows_sixty_bytes() {
 #[test]
 fn a_failed_send_shows_its_bytes() {
     let lines = watched_after(ready(0x81, 0x00), &[&[7, 1, 16], &[7]]);
-    let expected = "14 0 003c 1 0123456789abcdef0ff0\
+    let expected = "14 0 0040 1 0123456789abcdef0ff0\
                     00000000000000000000\
                     00000000000000000000\
                     00000000000000000000\
                     00000000000000000000\
-                    00000000000000000000\n\
+                    00000000000000000000368959eb\n\
                     15 12 0000 1\n";
     assert_eq!(lines, expected);
     let odd = watched_after(ready(0x01, 0x20), &[&[7, 5, 1, 2]]);
-    assert_eq!(odd, "14 0 000b 1 0123456789abcdef0ff05a\n");
+    assert_eq!(odd, "14 0 000f 1 0123456789abcdef0ff05a7714da25\n");
 }
 
 /// Only "a send that is done" has bytes: here 11 and 12.
 #[test]
 fn a_refused_send_shows_no_bytes() {
     let outside = watched_after(ready(0x01, 0x00), &[&[7, 6], &[7]]);
-    assert_eq!(outside, "14 11 0000 0\n15 0 000a 1 0123456789abcdef0ff0\n");
+    assert_eq!(
+        outside,
+        "14 11 0000 0\n15 0 000e 1 0123456789abcdef0ff0cea7acba\n"
+    );
     let disabled = watched_after(ready(0x80, 0x00), &[&[7]]);
     assert_eq!(disabled, "14 12 0000 0\n");
 }
@@ -155,7 +158,7 @@ fn an_offending_count_shows_no_bytes() {
 fn a_released_packet_shows_its_bytes() {
     let release: [&[u8]; 3] = [&[3, 0xe, 1], &[4, 0xc, 0x00, 0x08], &[7]];
     let lines = watched_after(ready(0x01, 0x00), &release);
-    let expected = "14 0 0000 0\n15 0 0000 0\n16 0 000a 0 0123456789abcdef0ff0\n";
+    let expected = "14 0 0000 0\n15 0 0000 0\n16 0 000e 0 0123456789abcdef0ff0cea7acba\n";
     assert_eq!(lines, expected);
 }
 
@@ -171,7 +174,7 @@ fn a_shorter_send_shows_its_own_bytes() {
         &[7],
     ];
     let lines = watched_after(ready(0x81, 0x00), &records);
-    assert!(lines.ends_with("\n19 0 000a 1 0123456789abcdef0ff0\n"));
+    assert!(lines.ends_with("\n19 0 000e 1 0123456789abcdef0ff0cea7acba\n"));
 }
 
 /// EPH: up by "EPHSR 15, 10, 9, 5, 4 while bit 0 is clear, and control bit 5",
@@ -188,6 +191,6 @@ fn a_failed_send_raises_the_line() {
     ];
     let lines = watched_after(ready(0x01, 0x00), &records);
     let expected = "14 0 0000 0\n15 0 0000 0\n16 0 0000 0\n\
-                    17 0 000a 1 0123456789abcdef0ff0\n18 0 0000 1\n19 0 0000 0\n";
+                    17 0 000e 1 0123456789abcdef0ff0cea7acba\n18 0 0000 1\n19 0 0000 0\n";
     assert_eq!(lines, expected);
 }

@@ -3,6 +3,7 @@
 use super::record;
 use crate::bench::{numbers, BenchOn};
 use crate::memory::{Marked, PacketAddress, PacketNumber, Paged};
+use crate::wire::{self, Check};
 
 type MarkedBench = BenchOn<Marked<Paged>>;
 
@@ -85,9 +86,8 @@ fn load(bench: &mut MarkedBench, address: u16, words: &[u16]) {
 
 /// A broadcast frame of so many bytes.
 fn arrive(bench: &mut MarkedBench, length: usize) {
-    let bytes: Vec<u8> = (0..length)
-        .map(|at| if at < 6 { 0xff } else { at as u8 })
-        .collect();
+    let mut bytes = vec![0xff; length];
+    wire::end(&mut bytes, Check::Right);
     for piece in bytes.chunks(6) {
         play(bench, &[&[&[5, piece.len() as u8], piece].concat()]);
     }

@@ -18,7 +18,7 @@ abbrev start : tie.After-is-set → tie.Start
 start t = t .before .before .before .before
 
 abbrev the-frame : tie.Start → Frame
-the-frame s = frameOf (s .args .frame .now) (s .args .badcrc) (s .args .alignment)
+the-frame s = frameOf (s .args .frame .now) (s .args .alignment)
 
 -- the tests that went on, from the first
 enabled : (e : tie.Else1) → bit 8 (word (start (e .before) .args .words .now) 2) ≡ true

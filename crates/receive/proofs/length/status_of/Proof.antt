@@ -11,16 +11,17 @@ use Rattle.receive.proofs.length.status_of.Tie as tie
 returns : tie.Need-returns
 unfolding frameStatus
 returns c =
-    let odd = c .before .before .before .before in
-    let broad = odd .before .before in
+    let odd = c .before .before .before in
+    let bad = odd .before .before in
+    let broad = bad .before .before in
     omega (
       arith,
-      c .before .flag-of5 .ensures .0,
-      broad .flag-of .ensures .0 ∙ ap flag (broad .before .is-broadcast .ensures),
       c .flag-of6 .ensures .0,
-      odd .flag-of2 .ensures .0 ∙ ap flag (odd .before .is-odd .ensures),
-      c .before .before .before .flag-of3 .ensures .0,
+      broad .flag-of .ensures .0 ∙ ap flag (broad .before .is-broadcast .ensures),
+      bad .flag-of2 .ensures .0 ∙ ap flag (bad .before .is-stored-bad .ensures),
+      odd .flag-of3 .ensures .0 ∙ ap flag (odd .before .is-odd .ensures),
       c .before .before .flag-of4 .ensures .0,
+      c .before .flag-of5 .ensures .0,
       broad .before .before .before .group-bits .ensures .0,
     )
 
@@ -42,10 +43,11 @@ status-of-spec =
     (λ c κs. search needs)
     (λ c κs. search needs)
     (λ c κs. search needs)
-    (λ c. search needs)
-    (λ c. search needs)
-    (λ c. search needs)
     (λ c κs. search needs)
+    (λ c κs. search needs)
+    (λ c. search needs)
+    (λ c. search needs)
+    (λ c. search needs)
     (λ c. search needs)
     (λ c. search needs)
     (λ c. search needs)

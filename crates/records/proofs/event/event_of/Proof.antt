@@ -33,7 +33,7 @@ returns-5 c = let e : Kind (c .before .before .before .before) 5 = c .before .ma
 
 returns-6 : tie.Need-returns-6
 unfolding eventOf
-returns-6 c = let e : Kind (c .before .before .before .before .before .before .before) 6 = c .before .before .before .before .match .keys6 in rw (e, c .before .before .byte-is-set .ensures, c .byte-is-set2 .ensures)
+returns-6 c = let e : Kind (c .before .before .before .before .before) 6 = c .before .before .match .keys6 in rw (e, c .byte-is-set .ensures)
 
 returns-7 : tie.Need-returns-7
 unfolding eventOf
@@ -70,8 +70,6 @@ event-of-spec =
     (λ c. search needs)
     (λ c κs. search needs)
     (λ c. search needs)
-    (λ c. search needs)
-    (λ c κs. search needs)
     (λ c. search needs)
     (λ c κs. search needs)
     (λ c. search needs)

@@ -1,7 +1,7 @@
--- The data goes out first, and the zeros behind it.
+-- The data goes out first, and what ends it behind it.
 use borrow.Author.Needs.{needs}
 use Rattle.sets.specs.Views.{pagesOf}
-use Rattle.sending.proofs.Padding.{puts-data}
+use Rattle.on_wire.specs.Data.{puts-data}
 use Rattle.sending.proofs.output.put_out.Statement.{statement}
 use Rattle.sending.proofs.output.put_out.Tie as tie
 
@@ -13,7 +13,7 @@ returns c =
     let r = l .before in
     let x = r .before .before .before .args in
     puts-data (x .tcr) (x .count) (pagesOf (x .pages)) (x .memory .now) (r .read-byte .result) (l .send-length .result) (x .out .now) (r .read-byte .ensures) (l .send-length .ensures .0) (o .copy-out .ensures)
-    (p .pad-out .ensures)
+    (p .end-out .ensures)
 
 pub put-out-spec : {M : Type 1} → statement M
 put-out-spec =

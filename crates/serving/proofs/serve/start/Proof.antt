@@ -7,7 +7,7 @@ use Rattle.serving.proofs.serve.start.Tie as tie
 
 serve-from-requires : tie.Need-serve-from-requires
 serve-from-requires c κs = (
-  (record { chip = c .before .before .before .before .before .before .before .before .before .before .before .before .before .before .power-up .ensures .ready; room = length-replicate {A = ℕ} 2048 0; few = search needs }, length-replicate {A = ℕ} 2048 0),
+  (record { chip = c .before .before .before .before .before .before .before .before .before .before .before .before .before .before .power-up .ensures .ready; room = length-replicate {A = ℕ} 2048 0; few = search needs }, length-replicate {A = ℕ} 2052 0),
   c .before .before .before .before .before .before .before .before .before .before .before .before .before .before .before .before .before .before .pre,
 )
 

@@ -1,6 +1,6 @@
--- The data goes out first, and the zeros behind it.
+-- The data goes out first, and what ends it behind it.
 use borrow.Author.Needs.{needs}
-use Rattle.sending.proofs.Padding.{puts-data}
+use Rattle.on_wire.specs.Data.{puts-data}
 use Rattle.strip_bytes.specs.Strip.{stripOf}
 use Rattle.strip_output.proofs.output.put_out.Statement.{statement}
 use Rattle.strip_output.proofs.output.put_out.Tie as tie
@@ -13,7 +13,7 @@ returns c =
     let r = l .before in
     let x = r .before .before .before .args in
     puts-data (x .tcr) (x .count) (stripOf (x .packet .0)) (x .memory .now) (r .read-byte .result) (l .send-length .result) (x .out .now) (r .read-byte .ensures) (l .send-length .ensures .0) (o .copy-out .ensures)
-    (p .pad-out .ensures)
+    (p .end-out .ensures)
 
 pub put-out-spec : {M : Type 1} → statement M
 put-out-spec =

@@ -14,7 +14,7 @@ use Rattle.strip_serving.proofs.serve.run.Tie as tie
 abbrev Inv-loop : tie.InvT-loop
 Inv-loop program words₀ counts₀ queues₀ memory₀ wire₀ have₀ out₀ bytes₀ line₀ counter₀ words counts queues memory wire have out bytes line counter =
     HeldOf strips words counts queues memory wire have × Counts counter × (1 ≤ counter .number)
-    × (length words ≡ 32) × (length counts ≡ 24) × (length queues ≡ 72) × (length out ≡ 2048) × (length bytes ≡ 8) × (length line ≡ 40)
+    × (length words ≡ 32) × (length counts ≡ 24) × (length queues ≡ 72) × (length out ≡ 2052) × (length bytes ≡ 8) × (length line ≡ 40)
 
 abbrev μ-loop : tie.MeasureT-loop
 μ-loop program words₀ counts₀ queues₀ memory₀ wire₀ have₀ out₀ bytes₀ line₀ counter₀ words counts queues memory wire have out bytes line counter = 0x8000000000000000 - counter .number
@@ -28,7 +28,7 @@ loop-holds c =
       search needs,
       search needs,
       search needs,
-      length-replicate {A = ℕ} 2048 0,
+      length-replicate {A = ℕ} 2052 0,
       length-replicate {A = ℕ} 8 0,
       length-replicate {A = ℕ} 40 0,
     )

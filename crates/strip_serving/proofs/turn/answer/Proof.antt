@@ -37,7 +37,7 @@ returns-4 c =
 returns-5 : tie.Need-returns-5
 returns-5 c =
     let d = c .before .before .before .before .before .before .before .before .before .before .before .before .before .before .before .before .before .before in
-    turns-as _ (as-told d (c .before .before .before .before .before .before .before .before .before .before .before .before .before .before .before .before .event4 .given .1)) (frame-turns _ (d .before .before .before .before .before .before .before .before .before .pre .0) _ _ (c .before .before .before .before .before .before .before .before .frame-ends .ensures))
+    turns-as _ (as-told d (c .before .before .before .before .before .before .before .before .before .before .before .before .before .before .before .before .event4 .given .1)) (frame-turns _ (d .before .before .before .before .before .before .before .before .before .pre .0) _ (c .before .before .before .before .before .before .before .before .frame-ends .ensures))
 
 returns-6 : tie.Need-returns-6
 returns-6 c =

@@ -13,7 +13,7 @@ use Rattle.wellformed.specs.Pool.{good-lists}
 use Rattle.state.specs.View.{registersIn}
 use Rattle.pool.specs.Queues.{rejoins-chip, rejoins-sound}
 use Rattle.pool.specs.Pages.{repages-queues, repages-chip}
-use Rattle.receive.specs.Storing.{data-by, needed-by, data-less, some-needed, few-needed, enough, may-join, is-stowed}
+use Rattle.receive.specs.Storing.{data-by, needed-by, judged-good, data-less, some-needed, few-needed, enough, may-join, is-stowed}
 use Rattle.receive.specs.Storing as storable
 use Rattle.strip_steps.proofs.Storing.{in-strip, written}
 use Rattle.strip_steps.proofs.arrivals.stowed.Statement.{statement}
@@ -32,12 +32,17 @@ is-data d = d .data-length .ensures ∙ sym (data-by (registersIn (start d .args
 data-few : (d : tie.After-data-length) → d .data-length .result ≤ 1532
 data-few d = omega (arith, is-data d, storable.data-few (start d .pre .0))
 
+status-of-requires : tie.Need-status-of-requires
+status-of-requires c κs =
+    let t = start (c .before) .pre .0 in
+    (t .long, judged-good t)
+
 -- where the packet number and the data length are known
 abbrev number : tie.After-pages-for → tie.After-lowest-unallocated
 number p = p .before .before .before
 
 abbrev length-told : tie.After-pages-for → tie.After-data-length
-length-told p = number p .before .before
+length-told p = number p .before .before .before .before
 
 is-need : (p : tie.After-pages-for) → let s = start (length-told p) in p .pages-for .result ≡ needed (registersIn (s .args .words .now)) (len s)
 is-need p =
@@ -45,7 +50,7 @@ is-need p =
     needed-by (registersIn (start d .args .words .now)) _ _ _ (d .data-length .ensures) (p .pages-for .ensures)
 
 lowest-unallocated-requires : tie.Need-lowest-unallocated-requires
-lowest-unallocated-requires c κs = start (c .before) .pre .0 .ready .sound .sets .many
+lowest-unallocated-requires c κs = start (c .before .before .before) .pre .0 .ready .sound .sets .many
 
 grant-requires : tie.Need-grant-requires
 grant-requires p κs =
@@ -55,14 +60,14 @@ grant-requires p κs =
 
 store-frame-requires : tie.Need-store-frame-requires
 store-frame-requires c κs =
-    let g = c .before .before .before .before .before .before .before in
+    let g = c .before .before .before .before .before .before in
     let d = length-told (g .before) in
     let s = start d in
     (omega (arith, is-data d, data-less (s .pre .0)), rw (is-data d) (in-strip (s .pre .0) _ _ (number (g .before) .lowest-unallocated .ensures) (s .pre .1)))
 
 join-rx-requires : tie.Need-join-rx-requires
 join-rx-requires c κs =
-    let g = c .before .before .before .before .before .before .before .before .before .before .before .before in
+    let g = c .before .before .before .before .before .before .before .before .before .before .before in
     let s = start (length-told (g .before)) in
     let t = s .pre .0 in
     let a = g .grant .ensures in
@@ -73,8 +78,7 @@ returns : tie.Need-returns
 returns c =
     let u = c .before .before .before .before in
     let f = u .before .before .before .before .before in
-    let t = f .before .before .before in
-    let g = t .before .before .before .before .before in
+    let g = f .before .before .before .before .before .before .before in
     let p = g .before in
     let d = length-told p in
     let s = start d in
@@ -85,7 +89,7 @@ returns c =
       chip = rejoins-chip (u .join-rx .ensures) strips (g .grant .last .1 .0) (f .store-frame .last .0)
           ∙ ap (inPool (λ x. setRx (x .rx ++ (first .result .0 ∷ [])) x)) (repages-chip a (s .args .queues .now) (f .store-frame .last .0))
           ∙ is-stowed (s .pre .0) mem _ _ _ (first .ensures) (is-need p)
-          (written (s .pre .0) mem _ _ _ _ _ (f .store-frame .ensures) (t .status-of .ensures) (f .before .count-of .ensures) (is-data d) (first .ensures));
+          (written (s .pre .0) mem _ _ _ _ _ (f .store-frame .ensures) (number p .before .before .status-of .ensures) (f .before .count-of .ensures) (is-data d) (first .ensures));
       reply = refl;
       sound = rejoins-sound (u .join-rx .ensures) (a .sets);
     }
@@ -96,11 +100,12 @@ stowed-spec =
     (tie.spec
     (λ c. search needs)
     (λ c κs. search needs)
+    (λ c. search needs)
+    status-of-requires
     lowest-unallocated-requires
-    (λ c κs. data-few (c .before .before .before .before))
+    (λ c κs. data-few (c .before .before .before .before .before .before))
     grant-requires
-    (λ c κs. search needs)
-    (λ c κs. data-few (length-told (c .before .before .before .before .before .before .before)))
+    (λ c κs. data-few (length-told (c .before .before .before .before .before .before)))
     store-frame-requires
     join-rx-requires
     (λ c. search needs)

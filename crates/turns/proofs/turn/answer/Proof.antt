@@ -30,7 +30,7 @@ returns-3 c =
 returns-4 : tie.Need-returns-4
 returns-4 c =
     let d = c .before .before .before .before .before .before .before .before .before .before .before .before .before .before .before .before .before .before in
-    turns-as _ (as-told d (c .before .before .before .before .before .before .before .before .before .before .before .before .before .before .before .before .event4 .given .1)) (frame-turns _ (d .before .before .before .before .before .before .before .before .pre .0) _ _ (c .before .before .before .before .before .before .before .before .frame-ends .ensures))
+    turns-as _ (as-told d (c .before .before .before .before .before .before .before .before .before .before .before .before .before .before .before .before .event4 .given .1)) (frame-turns _ (d .before .before .before .before .before .before .before .before .pre .0) _ (c .before .before .before .before .before .before .before .before .frame-ends .ensures))
 
 returns-5 : tie.Need-returns-5
 returns-5 c =

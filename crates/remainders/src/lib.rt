@@ -1,0 +1,1 @@
+// No code: facts of the remainder of `rules`, in specs/.
