@@ -133,6 +133,8 @@ static inline uint32_t skarvoya_chip_line(const struct skarvoya_chip *c)
 static inline uint32_t skarvoya_bench_power_up(struct skarvoya_bench *b)
 {
 	b->gathered = 0;
+	for (size_t i = 0; i < SKARVOYA_OUTPUT; i++)
+		b->output[i] = 0;
 	b->count = 0;
 	return skarvoya_chip_power_up(&b->chip);
 }
