@@ -1,4 +1,4 @@
---
+-- By the lengths; then the words at reset, no packets and empty queues, and zeros.
 use mathlib.Core.Path.{_≡_, refl, ap, _∙_}
 use Prim.Native.Nat.{ℕ}
 use native.Mathlib.Omega.{arith}

@@ -1,4 +1,4 @@
---
+-- By the lengths, one after another.
 use mathlib.Core.Path.{sym}
 use mathlib.Core.Bool.{true≢false}
 use native.Mathlib.Omega.{arith}

@@ -1,4 +1,4 @@
---
+-- By the wire bytes and the count, then as `in_order` says.
 use mathlib.Core.Path.{sym}
 use mathlib.Core.Bool.{true≢false}
 use native.Mathlib.Omega.{arith}

@@ -2,18 +2,19 @@
 use mathlib.Core.Path.{refl}
 use native.Mathlib.Omega.{arith}
 use Rattle.chip.specs.Rights.{not-in, is-in}
+use Rattle.skarvoya.specs.Recorded.{refuses-record}
 use borrow.Author.Needs.{needs}
 use Rattle.skarvoya.proofs.record.skarvoya_record.Statement.{statement}
 use Rattle.skarvoya.proofs.record.skarvoya_record.Tie as tie
 
 returns : tie.Need-returns
 returns c = let no = not-in (c .before .before .bench-in-order .ensures) (c .before .if1 .taken) in
-    record { done = λ o. absurd (no o); short = λ o. absurd (no o); broken = λ n. record { returned = c .told .ensures; words = refl; sets = refl; queues = refl; memory = refl; gathered = refl; many = refl; output = refl; counted = refl; printed = refl; none = refl } }
+    record { done = λ o. absurd (no o); short = λ o. absurd (no o); broken = λ n. refuses-record (c .told .ensures) }
 
 returns-2 : tie.Need-returns-2
 returns-2 c = record {
   done = λ o r. absurd (not-in (c .before .before .roomy .ensures) (c .before .if2 .taken) r);
-  short = λ o n. record { returned = c .told2 .ensures; words = refl; sets = refl; queues = refl; memory = refl; gathered = refl; many = refl; output = refl; counted = refl; printed = refl; none = refl };
+  short = λ o n. refuses-record (c .told2 .ensures);
   broken = λ n. absurd (n (is-in (c .before .before .before .before .before .before .bench-in-order .ensures) (c .before .before .before .before .before .if1 .left)));
 }
 
