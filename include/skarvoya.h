@@ -3,7 +3,8 @@
  * it and prints its path). Each function does what docs/DRIVERS.md and docs/CHIP.md say; what it promises is in crates/skarvoya, and is proved.
  *
  * Nothing is kept between calls, and nothing is allocated: state, memory and buffers are the caller's. Each call takes at most 1,024 bytes of stack, its
- * arguments included, and needs no function of a C library but memcpy and memset.
+ * arguments included, and needs no function of a C library but memcpy and memset. The code is position independent, called as System V's ABI has it
+ * (Linux, and gcc and clang on bare metal), and uses the registers of SSE2.
  *
  * What C may hand over
  *   - A pointer and, behind it, how many elements stand there: these must be readable, and writable unless the pointer is to const. Any number
@@ -97,6 +98,7 @@ struct skarvoya_bench {
 	uint64_t count;
 };
 
+/* what a chip's struct lends, as arguments of the functions above */
 #define SKARVOYA_STATE(c) (c)->words, SKARVOYA_WORDS, (c)->sets, SKARVOYA_SETS, (c)->queues, SKARVOYA_QUEUES
 #define SKARVOYA_CHIP(c) SKARVOYA_STATE(c), (c)->memory, SKARVOYA_MEMORY
 
