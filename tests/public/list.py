@@ -46,7 +46,7 @@ def read_sources(crate):
     files = {}
     for path in sorted(glob.glob(os.path.join(ROOT, "crates", crate, "src", "*.rt"))):
         text = open(path, encoding="utf-8").read()
-        files[os.path.basename(path)[:-3]] = re.sub(r"//[^\n]*", "", text)
+        files[os.path.basename(path)[:-3]] = re.sub(r"//[^\n]*", "", text).replace('pub extern "C" fn', "pub fn")
     return files
 
 

@@ -24,18 +24,19 @@ pub fn push(slots: &mut [u8], count: u16, packet: Packet)
     slots[count as usize] = packet.0;
 }
 
-// The entries move up by one.
+// The entries move up by one, past a 0 that goes down to the end. (A plain copy the compiler would turn into `memmove`, which a monitor may not have.)
 pub fn pop(slots: &mut [u8], count: u16)
     requires { ⌜ (0 < count) × (count ≤ length (now slots)) ⌝ }
     ensures { λ _. ⌜ now (slots .exit) ≡ take (count - 1) (drop 1 (now (slots .entry))) ++ (0 ∷ drop count (now (slots .entry))) ⌝ }
 {
     let last = count as usize - 1;
+    slots[0] = 0;
     let mut i = 0;
     while i < last {
         slots[i] = slots[i + 1];
+        slots[i + 1] = 0;
         i += 1;
     }
-    slots[last] = 0;
 }
 
 // No entry is left.

@@ -12,6 +12,7 @@ pub use reads::heads;
 pub use reads::read_ecr;
 pub use resets::reset_words;
 pub use resets::write_rcr;
+pub use resets::zeroed;
 pub use words::new_rcr;
 pub use writes::write_bank;
 pub use writes::write_packet;

@@ -21,7 +21,7 @@ ghost use Rattle.state.specs.Promise.{Sound, Makes};
 ghost use Rattle.registers.specs.Promises.{zeroBut, WordsReset, SoftResets};
 
 // Every word is 0.
-fn zeroed(words: &mut [u16])
+pub fn zeroed(words: &mut [u16])
     ensures { λ _. ⌜ now (words .exit) ≡ replicate (length (now (words .entry))) 0 ⌝ }
 {
     let mut k = 0;

@@ -10,7 +10,7 @@ ghost use Rattle.records.specs.Counting.{Counts};
 ghost use Rattle.records.specs.Gathers.{holding};
 ghost use Rattle.state.specs.View.{viewOf};
 ghost use Rattle.turns.specs.Turns.{HeldOf};
-ghost use Rattle.strip_serving.specs.Served.{Served};
+ghost use Rattle.turns.specs.Served.{ServedOf};
 
 // Reads a record: eight bytes, or those that are left where the input ends. That it cannot be read is said. Returns how many bytes there are.
 fn read_record(program: &[u8], bytes: &mut [u8], number: u64) -> usize
@@ -46,7 +46,7 @@ fn serve_record(
 ) -> usize
     requires { ⌜ HeldOf strips (now words) (now counts) (now queues) (now memory) (now wire) (now have) ⌝ }
     requires { ⌜ (length (now bytes) ≤ 8) × Counts counter × (length (now line) ≡ 40) ⌝ }
-    ensures { λ end. ⌜ Served (counter .number) (now (bytes .entry)) (holding (viewOf strips (now (words .entry)) (now (counts .entry)) (now (queues .entry)) (now (memory .entry))) (take (now (have .entry)) (now (wire .entry))) (now (out .entry))) (now (words .exit)) (now (counts .exit)) (now (queues .exit)) (now (memory .exit)) (now (wire .exit)) (now (have .exit)) (now (out .exit)) (now (line .exit)) end ⌝ }
+    ensures { λ end. ⌜ ServedOf strips (counter .number) (now (bytes .entry)) (holding (viewOf strips (now (words .entry)) (now (counts .entry)) (now (queues .entry)) (now (memory .entry))) (take (now (have .entry)) (now (wire .entry))) (now (out .entry))) (now (words .exit)) (now (counts .exit)) (now (queues .exit)) (now (memory .exit)) (now (wire .exit)) (now (have .exit)) (now (out .exit)) (now (line .exit)) end ⌝ }
 {
     let given = answer(words, counts, queues, memory, wire, have, out, bytes);
     records::line_at(line, 0, counter, state::printed(given))

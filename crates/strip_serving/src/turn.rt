@@ -13,7 +13,7 @@ ghost use Rattle.records.specs.Gathers.{holding};
 ghost use Rattle.state.specs.View.{viewOf};
 ghost use Rattle.state.specs.Entry.{RightOf};
 ghost use Rattle.turns.specs.Turns.{HeldOf, TurnsOf};
-ghost use Rattle.strip_serving.specs.Served.{asked};
+ghost use Rattle.turns.specs.Served.{asked};
 
 // The gathered bytes arrive as a frame, and gathering starts anew whatever the answer.
 fn frame_ends(

@@ -5,7 +5,7 @@ use native.Mathlib.Omega.{arith}
 use Rattle.records.specs.declared.event.Event.{Event}
 use Rattle.records.specs.Event.{meant}
 use Rattle.turns.specs.Steps.{told, turns-as, access-turns, frame-turns, send-turns, wire-turns, unknown-turns}
-use Rattle.strip_serving.specs.Served.{asked, asked-short, asked-whole}
+use Rattle.turns.specs.Served.{asked, asked-short, asked-whole}
 use Rattle.strip_serving.proofs.turn.answer.Statement.{statement}
 use Rattle.strip_serving.proofs.turn.answer.Tie as tie
 

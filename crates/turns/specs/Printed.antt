@@ -1,4 +1,4 @@
--- Records served one after another: their lines are what the rules say the program prints.
+-- Records served one after another: their lines are what the rules say the programs print.
 use mathlib.Core.Path.{_≡_, refl, ap, sym}
 use mathlib.Core.List.{List, [], _∷_, _++_, append-nil}
 use Prim.Native.Nat.{ℕ, zero, suc, _+_, _≤_, _<_}
@@ -8,8 +8,8 @@ use native.Mathlib.Decide.{decLe}
 use lib.ListN.{length, take, drop, drop-of-length-le}
 use lib.Seq.{length-take-le, take-all}
 use Rattle.rules.specs.Chip.{stripsUp}
-use Rattle.rules.specs.Bench.{unknown, Bench, plain, answer, eventOf, printed, startedOn, stripBench}
-use Rattle.strip_serving.specs.Served.{asked, asked-short, asked-whole}
+use Rattle.rules.specs.Bench.{unknown, Bench, plain, answer, eventOf, printed, startedOn, started, bench, stripBench}
+use Rattle.turns.specs.Served.{asked, asked-short, asked-whole}
 
 -- the input's records: eight bytes each, and what is left at its end (n bounds the records, of which there are no more than bytes)
 unfoldable pub recordsIn : ℕ → List ℕ → List (List ℕ)
@@ -44,6 +44,9 @@ prints (suc n) k (x ∷ xs) b = go (prints n (k + 1) (drop 8 (x ∷ xs)) (answer
         let s : length l < 8 = omega arith in
         rw (lt-ltb (length l) 8 s, take-all 8 l (omega arith), drop-of-length-le l {i = 8} (omega arith), asked-short l s, none-left n) (sym (append-nil (plain k unknown (answer unknown b))))
 
--- From power-up on, the lines of the input's records are the program's.
+-- From power-up on, the lines of the input's records are the program's: the bench's, and that of the chip of strips.
+pub bench-prints : (input : List ℕ) → bench input ≡ linesOf 1 (recordsIn (length input) input) started
+bench-prints input = prints (length input) 1 input started
+
 pub strip-bench-prints : (input : List ℕ) → stripBench input ≡ linesOf 1 (recordsIn (length input) input) (startedOn stripsUp)
 strip-bench-prints input = prints (length input) 1 input (startedOn stripsUp)

@@ -1,0 +1,150 @@
+// A record of the bench, and its printed line.
+use crate::order::in_order;
+use crate::told::told;
+use on_wire::OUTPUT_BYTES;
+use state::Answer;
+ghost use mathlib.Core.Path.{_≡_};
+ghost use Prim.Native.Nat.{_≤_};
+ghost use lib.ListN.{length, take};
+ghost use Rattle.rules.specs.Bench as rules;
+ghost use Rattle.lists.specs.Facts.{Decides};
+ghost use Rattle.records.specs.Gathers.{holding};
+ghost use Rattle.state.specs.View.{view};
+ghost use Rattle.turns.specs.Turns.{Held, Turns};
+ghost use Rattle.turns.specs.Served.{asked};
+ghost use Rattle.skarvoya.specs.Records.{BenchInOrder, Roomy, Serves, AnswersRecord};
+
+// As many wire bytes are gathered at most, and their buffer has this room.
+const WIRE_BYTES: usize = 2048;
+
+// A line has room in this.
+const LINE_BYTES: usize = 40;
+
+// A count of records with no next one.
+const LAST_COUNT: u64 = 0xffffffffffffffff;
+
+// Is what a bench keeps from record to record in order? Its count of records must have a next one.
+fn bench_in_order(
+    words: &[u16],
+    sets: &[u32],
+    queues: &[u8],
+    memory: &[u8],
+    wire: &[u8],
+    gathered: usize,
+    count: u64,
+) -> bool
+    ensures { λ b. ⌜ Decides b (BenchInOrder (now (words .entry)) (now (sets .entry)) (now (queues .entry)) (now (memory .entry)) (now (wire .entry)) gathered count) ⌝ }
+{
+    if wire.len() != WIRE_BYTES {
+        return false;
+    }
+    if WIRE_BYTES < gathered {
+        return false;
+    }
+    if LAST_COUNT <= count {
+        return false;
+    }
+    in_order(words, sets, queues, memory)
+}
+
+// The answer to the first eight bytes; fewer are a record cut short.
+fn answer(
+    words: &mut [u16],
+    sets: &mut [u32],
+    queues: &mut [u8],
+    memory: &mut [u8],
+    wire: &mut [u8],
+    gathered: &mut usize,
+    output: &mut [u8],
+    bytes: &[u8],
+) -> Answer
+    requires { ⌜ Held (now words) (now sets) (now queues) (now memory) (now wire) (now gathered) ⌝ }
+    ensures { λ a. ⌜ Turns (rules.answer (asked (take 8 (now (bytes .entry)))) (holding (view (now (words .entry)) (now (sets .entry)) (now (queues .entry)) (now (memory .entry))) (take (now (gathered .entry)) (now (wire .entry))) (now (output .entry)))) a (now (words .exit)) (now (sets .exit)) (now (queues .exit)) (now (memory .exit)) (now (wire .exit)) (now (gathered .exit)) (now (output .exit)) ⌝ }
+{
+    if bytes.len() < 8 {
+        return Answer::CutShort;
+    }
+    turns::answer(
+        words,
+        sets,
+        queues,
+        memory,
+        wire,
+        gathered,
+        output,
+        &bytes[..8],
+    )
+}
+
+// The record of this number is answered, and its line written to the front of `line`; `printed` is where the line ends.
+fn serve(
+    words: &mut [u16],
+    sets: &mut [u32],
+    queues: &mut [u8],
+    memory: &mut [u8],
+    wire: &mut [u8],
+    gathered: &mut usize,
+    output: &mut [u8],
+    number: u64,
+    bytes: &[u8],
+    line: &mut [u8],
+    printed: &mut usize,
+) -> Answer
+    requires { ⌜ Held (now words) (now sets) (now queues) (now memory) (now wire) (now gathered) × (40 ≤ length (now line)) ⌝ }
+    ensures { λ a. ⌜ Serves number (take 8 (now (bytes .entry))) (holding (view (now (words .entry)) (now (sets .entry)) (now (queues .entry)) (now (memory .entry))) (take (now (gathered .entry)) (now (wire .entry))) (now (output .entry))) (now (line .entry)) a (now (words .exit)) (now (sets .exit)) (now (queues .exit)) (now (memory .exit)) (now (wire .exit)) (now (gathered .exit)) (now (output .exit)) (now (line .exit)) (now (printed .exit)) ⌝ }
+{
+    let given = answer(words, sets, queues, memory, wire, gathered, output, bytes);
+    let counter = records::counter_of(number);
+    *printed = records::line_at(line, 0, counter, state::printed(given));
+    given
+}
+
+// Have the output and the line room?
+fn roomy(output: &[u8], line: &[u8]) -> bool
+    ensures { λ b. ⌜ Decides b (Roomy (now (output .entry)) (now (line .entry))) ⌝ }
+{
+    if output.len() < OUTPUT_BYTES {
+        return false;
+    }
+    LINE_BYTES <= line.len()
+}
+
+// A record of the bench: it is answered, and its line is printed. `count` is how many records there were before.
+#[no_mangle]
+pub extern "C" fn skarvoya_record(
+    words: &mut [u16],
+    sets: &mut [u32],
+    queues: &mut [u8],
+    memory: &mut [u8],
+    wire: &mut [u8],
+    gathered: &mut usize,
+    output: &mut [u8],
+    count: &mut u64,
+    bytes: &[u8],
+    line: &mut [u8],
+    printed: &mut usize,
+) -> u32
+    ensures { λ n. ⌜ AnswersRecord (now (bytes .entry)) (now (words .entry)) (now (sets .entry)) (now (queues .entry)) (now (memory .entry)) (now (wire .entry)) (now (gathered .entry)) (now (output .entry)) (now (count .entry)) (now (line .entry)) n (now (words .exit)) (now (sets .exit)) (now (queues .exit)) (now (memory .exit)) (now (wire .exit)) (now (gathered .exit)) (now (output .exit)) (now (count .exit)) (now (line .exit)) (now (printed .exit)) ⌝ }
+{
+    *printed = 0;
+    if !bench_in_order(words, sets, queues, memory, wire, *gathered, *count) {
+        return told(Answer::Damaged);
+    }
+    if !roomy(output, line) {
+        return told(Answer::ShortOutput);
+    }
+    *count += 1;
+    told(serve(
+        words,
+        sets,
+        queues,
+        memory,
+        wire,
+        gathered,
+        output,
+        *count,
+        bytes,
+        line,
+        printed,
+    ))
+}
