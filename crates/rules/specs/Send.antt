@@ -132,7 +132,11 @@ autoRelease isGood r = isGood && bit 11 (r .control)
 abbrev pub retire : Bool → ℕ → Chip → Chip
 retire released k c = cond released (giveBack k c) (inPool (setCompletion (c .pool .completion ++ (k ∷ []))) c)
 
--- "EPHSR is written to addresses 0 and 1.", as it is shown
+-- EPHSR after it, as it is shown
+abbrev pub statusWord : Bool → Send → List ℕ → Registers → ℕ
+statusWord isGood s address r = shown (r .link .up) (newEphsr isGood s address r)
+
+-- "EPHSR is written to addresses 0 and 1."
 abbrev pub statusWritten : List ℕ → ℕ → Chip → Chip
 statusWritten pages e c = inMemory (putBytes (lowByte e ∷ highByte e ∷ []) 0 pages) c
 
@@ -147,7 +151,7 @@ sendHead s k rest c out =
       reply = record { number = 0; value = length bytes };
       chip =
           retire (autoRelease isGood (c .regs)) k
-          (statusWritten pages (shown (c .regs .link .up) (newEphsr isGood s address (c .regs)))
+          (statusWritten pages (statusWord isGood s address (c .regs))
           (inPool (setTx rest) (inRegisters (sentRegisters isGood s address (not (some? rest))) c)));
       output = over bytes out;
     }
