@@ -25,6 +25,8 @@ pub mod Theorems
 pub mod Restarts
 -- An allocation that waits: granted in the very step that leaves enough pages free, never waiting in vain, and ended by nothing but a grant, a new request or a reset.
 pub mod Waiting
+-- The link: loading, frames and sends are as before, whatever it is.
+pub mod LinkApart
 -- Demand 3: loading and reception do not disturb each other.
 pub mod Apart
 pub mod Reception
