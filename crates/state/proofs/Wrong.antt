@@ -56,8 +56,8 @@ ready = record {
   sound = record {
     kept = record {
       whole = refl;
-      fixed = record { bankHigh = refl; reservedHigh = refl; latched = refl; maskLow = refl };
-      blank = record { none15 = refl; none16 = refl; none18 = refl; none20 = refl; none21 = refl };
+      fixed = record { bankHigh = refl; reservedHigh = refl; latched = refl; linkBits = omega arith; maskLow = refl };
+      blank = record { none16 = refl; none18 = refl; none20 = refl; none21 = refl };
     };
     queues = record {
       long = refl;

@@ -34,6 +34,8 @@ pub const LOST_CARR: u16 = 10;
 
 pub const CTR_ROL: u16 = 12;
 
+pub const LINK_OK: u16 = 14;
+
 pub const TXUNRN: u16 = 15;
 
 // Receive control, RCR.
@@ -54,9 +56,16 @@ pub const TE_ENABLE: u16 = 5;
 
 pub const CR_ENABLE: u16 = 6;
 
+pub const LE_ENABLE: u16 = 7;
+
 pub const AUTO_RELEASE: u16 = 11;
 
 pub const RCV_BAD: u16 = 14;
+
+// The link's word: is it up, and was a change of it seen.
+pub const LINK_UP: u16 = 0;
+
+pub const LINK_CHANGED: u16 = 1;
 
 // The allocation result's bit 7, FAILED, where it stands in the word: above the packet number.
 pub const ALLOCATION_FAILED: u16 = 15;

@@ -22,6 +22,7 @@ pub use places::IN_TX;
 pub use places::IN_TX_HIGH;
 pub use places::INTERRUPT;
 pub use places::LATCHES;
+pub use places::LINK;
 pub use places::MIR;
 pub use places::PACKET;
 pub use places::POINTER;
