@@ -2,7 +2,7 @@
 use mathlib.Core.Path.{_≡_, refl, ap, sym, _∙_}
 use mathlib.Core.Bool.{Bool, true, false, xor, _||_}
 use mathlib.Core.List.{List}
-use Prim.Native.Nat.{ℕ, zero, suc, _+_, _*_, _/_, _%_, _≤_, _<_}
+use Prim.Native.Nat.{ℕ, zero, suc, _+_, _*_, _/_, _%_, _^_, _≤_, _<_}
 use native.Mathlib.Omega.{arith}
 use borrow.Author.Tests.{lt-ltb, le-ltb}
 use lib.Dec.{eqb, ltb}
@@ -11,6 +11,7 @@ use Rattle.rules.specs.Bits.{bit, flag}
 use Rattle.rules.specs.Chip.{Link, Registers}
 use Rattle.rules.specs.Fields.{setLink}
 use Rattle.rules.specs.Link.{relink, plug}
+use Rattle.bits.specs.Laws.{bit-zero}
 use Rattle.state.specs.declared.Answer.the-variants.{Done, OutsideLimits}
 use Rattle.state.specs.View.{word, registersIn, Kept}
 use Rattle.state.specs.Promise.{Does, does-sets, sets-as}
@@ -33,10 +34,13 @@ pub two-bits : (x : ℕ) → x < 4 → x ≡ flag (bit 0 x) + 2 * flag (bit 1 x)
 unfolding bit flag
 two-bits = below-four (λ x. x ≡ flag (bit 0 x) + 2 * flag (bit 1 x)) refl refl refl refl
 
--- Forgetting leaves bit 0.
-pub forgets : (x kept : ℕ) → x < 4 → kept ≡ x % 2 → linkIn kept ≡ record { up = bit 0 x; changed = false }
+-- Bit 0 alone is the link, and no change.
+pub forgets : (x kept : ℕ) → kept ≡ x % 2 → linkIn kept ≡ record { up = bit 0 x; changed = false }
 unfolding bit
-forgets x kept h e = ap linkIn e ∙ below-four (λ x. linkIn (x % 2) ≡ record { up = bit 0 x; changed = false }) refl refl refl refl x h
+forgets x kept e =
+    let same : kept % 2 ≡ x % 2 = omega (arith, e) in
+    let none : kept / 2 ^ 1 % 2 ≡ 0 = omega (arith, e) in
+    λ i. record { up = (bit-zero kept ∙ ap (λ (y : ℕ). eqb y 1) same ∙ sym (bit-zero x)) i; changed = ap (λ (y : ℕ). eqb y 1) none i }
 
 -- The link set to x, 0 or 1, where the word was y: the same again is no change, and another is one.
 abbrev after : ℕ → ℕ → Link

@@ -154,7 +154,7 @@ unfolding writeRegister
 writes-control p v new kept w k joined right =
     let first = store-control new w k in
     does-sets (sets-as (sets-both first (store-link kept (omega (arith, right)) (set w 14 new) (first .kept)))
-    (ap (λ (x : Link). setLink x (setControl new (registersIn w))) (forgets (word w 15) kept (k .fixed .linkBits) right) ∙ ap (λ (x : ℕ). setControl x (forgetChange (registersIn w))) (joined .word)))
+    (ap (λ (x : Link). setLink x (setControl new (registersIn w))) (forgets (word w 15) kept right) ∙ ap (λ (x : ℕ). setControl x (forgetChange (registersIn w))) (joined .word)))
 
 -- A read of ECR clears it, and EPHSR bit 12.
 pub reads-ecr : (p : Lanes) (eph : ℕ) (w : List ℕ) → Kept w → eph ≡ clearBit 12 (word w 1) → Does (readRegister ECR p) w (Done (taken p (word w 3))) (set (set w 3 0) 1 eph)
