@@ -27,6 +27,7 @@ pub mod Restarts
 pub mod Waiting
 -- The link: loading, frames and sends are as before, whatever it is.
 pub mod LinkApart
+pub mod LinkReads
 -- Demand 3: loading and reception do not disturb each other.
 pub mod Apart
 pub mod Reception
