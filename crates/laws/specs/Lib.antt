@@ -28,6 +28,7 @@ pub mod Waiting
 -- The link: loading, frames and sends are as before, whatever it is.
 pub mod LinkApart
 pub mod LinkReads
+pub mod LinkSteps
 -- Demand 3: loading and reception do not disturb each other.
 pub mod Apart
 pub mod Reception

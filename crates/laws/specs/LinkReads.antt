@@ -104,8 +104,14 @@ butEph c =
 
 five-bits : (c : Chip) → butEph c < 32
 five-bits c =
-    omega (arith, flag-small (some? (c .pool .rx)), flag-small (some? (c .pool .completion)), flag-small (c .regs .sending .txEmpty),
-    flag-small (not (bit 7 (c .regs .numbers .result))), flag-small (c .regs .receiving .overrun))
+    omega (
+      arith,
+      flag-small (some? (c .pool .rx)),
+      flag-small (some? (c .pool .completion)),
+      flag-small (c .regs .sending .txEmpty),
+      flag-small (not (bit 7 (c .regs .numbers .result))),
+      flag-small (c .regs .receiving .overrun),
+    )
 
 -- EPH above these five bits is bit 5 alone, with the mask behind them or without.
 eph-alone : (p : Lanes) (x m : ℕ) (b : Bool) → x < 32 → besideLink INTERRUPT p (taken p (wordOf (x + 32 * flag b) m)) ≡ besideLink INTERRUPT p (taken p (wordOf x m))
