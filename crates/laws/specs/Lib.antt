@@ -29,6 +29,7 @@ pub mod Waiting
 pub mod LinkApart
 pub mod LinkReads
 pub mod LinkSteps
+pub mod LinkSends
 -- Demand 3: loading and reception do not disturb each other.
 pub mod Apart
 pub mod Reception
