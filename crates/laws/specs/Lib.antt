@@ -30,6 +30,8 @@ pub mod LinkApart
 pub mod LinkReads
 pub mod LinkSteps
 pub mod LinkSends
+pub mod LinkKept
+pub mod LinkPlaces
 -- Demand 3: loading and reception do not disturb each other.
 pub mod Apart
 pub mod Reception
