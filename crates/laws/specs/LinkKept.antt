@@ -1,8 +1,8 @@
--- Who changes the link: link events alone. Who forgets that it changed: a write to a control byte and a soft reset. What a send shows of it. Of every chip, well formed or not.
-use mathlib.Core.Path.{_≡_, refl, ap, sym, _∙_}
-use mathlib.Core.Bool.{Bool, true, false, cond, not, xor, _||_, true≢false}
+-- Who changes the link: link events alone. Who forgets that it changed: a write to a control byte and a soft reset. Of every chip, well formed or not.
+use mathlib.Core.Path.{_≡_, refl, ap}
+use mathlib.Core.Bool.{false, xor, _||_}
 use mathlib.Core.Logic.{_⊎_, inl, inr, ⊎-elim}
-use mathlib.Core.List.{List, [], _∷_}
+use mathlib.Core.List.{List, []}
 use Prim.Native.Nat.{ℕ}
 use native.Mathlib.Omega.{arith}
 use lib.Dec.{eqb, leb, ltb}
@@ -10,17 +10,16 @@ use lib.ListN.{length}
 use Rattle.rules.specs.Bits.{bit, lowByte}
 use Rattle.rules.specs.Chip.{Link, Registers, Chip, free}
 use Rattle.rules.specs.Fields.{inRegisters}
-use Rattle.rules.specs.Answers.{Effect, Turn}
+use Rattle.rules.specs.Answers.{Effect, Turn, leaving}
 use Rattle.rules.specs.Mmu.{Command, nothing, allocate, reset, removeRx, removeAndRelease, release, enqueue, resetTx, unknown, decode, perform, settle}
 use Rattle.rules.specs.Data.{readData, writeData}
-use Rattle.rules.specs.Link.{shownEphsr, plug}
+use Rattle.rules.specs.Link.{plug}
 use Rattle.rules.specs.Registers.{Lanes, low, high, both, Register, TCR, EPHSR, RCR, ECR, MIR, RESERVED, STATION, CONTROL, COMMAND, PACKET, HEADS, POINTER, DATA, INTERRUPT, TABLE, BANK, UNUSED, ABSENT, bytesOf, newRcr, writeRcr, writeTcr, writeInterrupt, writeRegister, registerAt, misplaced, lanesAt, Access, read, write, access}
 use Rattle.rules.specs.Receive.{Frame, arrive}
 use Rattle.rules.specs.Send.{Send, good, autoRelease, sendHead, finish}
 use Rattle.rules.specs.Step.{Input, driver, frame, sent, link, serve, stepOf}
 use Rattle.wellformed.specs.Cases.{pick, by-settle, by-head, by-idle, by-packet, by-tests, by-lanes, by-read, by-send, by-step}
 use Rattle.laws.specs.Reception.{frame-is}
-use Rattle.laws.specs.LinkReads.{shown-bit}
 
 -- a link after another: the same, or the same with the change forgotten
 abbrev pub Kept : Link → Link → Type 0
@@ -37,6 +36,7 @@ module _ (c : Chip) where
   abbrev KeptIn : Effect → Type 0
   KeptIn e = Kept (c .regs .link) (e .chip .regs .link)
 
+  -- No grant of what waits, no command and no data access touches it.
   settled : (d : Chip) → Same d → Same (settle d)
   settled d h = by-settle Same d (λ e. h) (λ e. h)
 
@@ -60,6 +60,7 @@ module _ (c : Chip) where
   unfolding writeData
   writes-data bytes = by-packet c SameIn _ refl refl (λ pages. by-tests c SameIn _ (length bytes) pages _ refl refl refl refl)
 
+  -- Of the registers only RCR, by a soft reset, and control forget the change.
   writes-interrupt : (p : Lanes) (v : ℕ) → Same (writeInterrupt p v c)
   unfolding writeInterrupt
   writes-interrupt low v = refl
@@ -87,6 +88,7 @@ module _ (c : Chip) where
   writes UNUSED p v = inl refl
   writes ABSENT p v = inl refl
 
+  -- All accesses, frames and sends.
   accesses : (a : Access) → KeptIn (access a c)
   unfolding access
   accesses (read w o) = inl (pick SameIn (misplaced w o) refl (by-read c SameIn refl (λ v. refl) (λ v. refl) reads-data (registerAt (c .regs .numbers .bank) o) (lanesAt w o)))
@@ -129,6 +131,11 @@ changed-until n (link x) c h = absurd (h x refl)
 pub only-link-events : (n : ℕ) (i : Input) (c : Chip) → NoLinkEvent i → stepOf n i c .chip .regs .link .up ≡ c .regs .link .up
 only-link-events n i c h = ⊎-elim (λ e. ap (λ (x : Link). x .up) e) (λ e. e .0) (changed-until n i c h)
 
--- After a send, EPHSR as it is shown has the link of before at bit 14.
-pub status-shows-link : (n : ℕ) (s : Send) (out : List ℕ) (c : Chip) → bit 14 (shownEphsr (stepOf n (sent s out) c .chip .regs)) ≡ c .regs .link .up
-status-shows-link n s out c = shown-bit _ _ ∙ ap (λ (x : Link). x .up) (send-leaves-link n s out c)
+-- One that is done sets it to its byte and remembers a change.
+pub link-sets : (n x : ℕ) (c : Chip) → stepOf n (link x) c .reply .number ≡ 0
+    → stepOf n (link x) c .chip .regs .link ≡ record { up = eqb x 1; changed = c .regs .link .changed || xor (eqb x 1) (c .regs .link .up) }
+unfolding serve plug
+link-sets n x c = by-step c Sets n (link x) (λ z. absurd (omega (arith, z))) (pick (λ (e : Effect). Sets (leaving [] e)) (ltb 1 x) (λ z. absurd (omega (arith, z))) (λ z. refl))
+  where
+    Sets : Turn → Type 0
+    Sets t = t .reply .number ≡ 0 → t .chip .regs .link ≡ record { up = eqb x 1; changed = c .regs .link .changed || xor (eqb x 1) (c .regs .link .up) }

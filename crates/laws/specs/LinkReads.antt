@@ -1,5 +1,5 @@
 -- The two values that show the link, EPHSR and the interrupt status: bit by bit, and that all else in them is the same whatever the link.
-use mathlib.Core.Path.{_≡_, refl, ap, sym, subst, _∙_}
+use mathlib.Core.Path.{_≡_, ap, sym, subst, _∙_}
 use mathlib.Core.Bool.{Bool, true, false, not}
 use Prim.Native.Nat.{ℕ, _+_, _-_, _*_, _/_, _%_, _^_, _≤_, _<_}
 use native.Mathlib.Decide.{decLe}
@@ -53,7 +53,7 @@ shown-others k up e n = go (decLe k 14)
     go (yes h) = lower (14 - (1 + k)) (omega arith)
     go (no h) = higher (k - 15) (omega arith)
 
--- So but for bit 14 two links show the same: in the word, in its high byte, and in its low byte without exception.
+-- So but for bit 14 two links show the same: in the word,
 pub shown-word : (up down : Bool) (e : ℕ) → clearBit 14 (shown up e) ≡ clearBit 14 (shown down e)
 unfolding shown clearBit flag
 shown-word up down e = stored up ∙ sym (stored down)
@@ -62,6 +62,7 @@ shown-word up down e = stored up ∙ sym (stored down)
     stored true = omega arith
     stored false = omega arith
 
+-- in its high byte, where it is bit 6, with the same above it and below it,
 clear-alike : (x y : ℕ) → x / 128 ≡ y / 128 → x % 64 ≡ y % 64 → clearBit 6 x ≡ clearBit 6 y
 unfolding clearBit
 clear-alike x y a b = omega arith
@@ -81,6 +82,7 @@ shown-high up down e = stored up ∙ sym (stored down)
         clear-alike _ _ (high-above (shown b e) ∙ ap (λ (x : ℕ). x % 2) (shown-above b e) ∙ sym (high-above e))
         (high-below (shown b e) ∙ ap (λ (x : ℕ). x / 256) (shown-below b e) ∙ sym (high-below e))
 
+-- and in its low byte without exception.
 pub shown-low : (up down : Bool) (e : ℕ) → lowByte (shown up e) ≡ lowByte (shown down e)
 unfolding shown clearBit flag lowByte
 shown-low up down e = stored up ∙ sym (stored down)

@@ -3,17 +3,17 @@ use mathlib.Core.Path.{_≡_, refl}
 use mathlib.Core.Bool.{Bool, true, false, cond, not}
 use mathlib.Core.List.{List, [], _∷_}
 use Prim.Native.Nat.{ℕ}
-use lib.Dec.{eqb, leb, ltb}
+use lib.Dec.{leb, ltb}
 use lib.ListN.{length}
 use Rattle.rules.specs.Bits.{bit, lowByte}
 use Rattle.rules.specs.Chip.{Link, Registers, Chip, pagesAt, allocated, free}
 use Rattle.rules.specs.Fields.{inRegisters}
-use Rattle.rules.specs.Answers.{Reply, Effect, doneWith, did, refuse}
+use Rattle.rules.specs.Answers.{Reply, Effect, did}
 use Rattle.rules.specs.Mmu.{Command, nothing, allocate, reset, removeRx, removeAndRelease, release, enqueue, resetTx, unknown, decode, due, settle, queued, ifIdle, ifHead, perform}
 use Rattle.rules.specs.Data.{rcv, against, oddFixed, past, ifPacket, ifOpen, readData, writeData}
 use Rattle.rules.specs.Link.{plug}
 use Rattle.rules.specs.Registers.{Lanes, low, high, both, Register, TCR, EPHSR, RCR, ECR, MIR, RESERVED, STATION, CONTROL, COMMAND, PACKET, HEADS, POINTER, DATA, INTERRUPT, TABLE, BANK, UNUSED, ABSENT, width, bytesOf, merged, newRcr, writeRcr, writeTcr, writeInterrupt, lowOnly, readRegister, writeRegister, registerAt, misplaced, lanesAt, Access, read, write, access}
-use Rattle.rules.specs.Receive.{Frame, Arrival, stored, disabled, notAccepted, tooLong, bad, noRoom, valueFor, judge, accepted, dropped, needed, dataLength, after, verdict, arrive}
+use Rattle.rules.specs.Receive.{Frame, Arrival, stored, disabled, notAccepted, tooLong, bad, noRoom, judge, accepted, dropped, needed, dataLength, after, verdict, arrive}
 use Rattle.rules.specs.Step.{driver}
 use Rattle.laws.specs.LinkApart.{linked, ByLink, besideLink, valueBeside}
 use Rattle.laws.specs.LinkReads.{ephsr-beside, interrupt-beside}
