@@ -57,7 +57,7 @@ unfolding bit flag
 bit-first true r = let e : (1 + 2 * r) % 2 ≡ 1 = omega arith in rw (div-one (1 + 2 * r)) (eq-eqb ((1 + 2 * r) % 2) 1 e)
 bit-first false r = let e : (0 + 2 * r) % 2 ≡ 0 = omega arith in rw (div-one (0 + 2 * r), e)
 
-flag-small : (b : Bool) → flag b < 2
+pub flag-small : (b : Bool) → flag b < 2
 unfolding flag
 flag-small true = omega arith
 flag-small false = omega arith

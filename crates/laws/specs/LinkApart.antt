@@ -5,7 +5,7 @@ use Prim.Native.Nat.{ℕ}
 use Rattle.rules.specs.Bits.{clearBit}
 use Rattle.rules.specs.Chip.{Link, Chip}
 use Rattle.rules.specs.Fields.{setLink, inRegisters, inMemory}
-use Rattle.rules.specs.Answers.{Reply, Turn}
+use Rattle.rules.specs.Answers.{Turn}
 use Rattle.rules.specs.Packet.{putBytes}
 use Rattle.rules.specs.Registers.{Lanes, low, high, both, Register, TCR, EPHSR, RCR, ECR, MIR, RESERVED, STATION, CONTROL, COMMAND, PACKET, HEADS, POINTER, DATA, INTERRUPT, TABLE, BANK, UNUSED, ABSENT, registerAt, lanesAt, read, write}
 use Rattle.rules.specs.Step.{Input, driver, frame, sent, link, stepOf}
