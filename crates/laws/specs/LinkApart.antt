@@ -65,12 +65,16 @@ ApartAfter (sent s out) c t u =
     × ((t .reply .number ≡ 0 → ⊥) → ByLink (t .chip) (u .chip))
 ApartAfter (link x) c t u = ByLink (t .chip) (u .chip)
 
--- one input to both: the numbers agree, the values but for what shows the link, and what a send puts out
-pub record LinkApart (n : ℕ) (i : Input) (c d : Chip) : Type 0 where
-  pub number : stepOf n i d .reply .number ≡ stepOf n i c .reply .number
-  pub value : valueBeside i c (stepOf n i d .reply .value) ≡ valueBeside i c (stepOf n i c .reply .value)
-  pub output : stepOf n i d .output ≡ stepOf n i c .output
-  pub after : ApartAfter i c (stepOf n i c) (stepOf n i d)
+-- the two turns t and u of one input, to c and to the other: the numbers agree, the values but for what shows the link, and what a send puts out
+pub record TurnsApart (i : Input) (c : Chip) (t u : Turn) : Type 0 where
+  pub number : u .reply .number ≡ t .reply .number
+  pub value : valueBeside i c (u .reply .value) ≡ valueBeside i c (t .reply .value)
+  pub output : u .output ≡ t .output
+  pub after : ApartAfter i c t u
+
+-- one step of both
+abbrev pub LinkApart : ℕ → Input → Chip → Chip → Type 0
+LinkApart n i c d = TurnsApart i c (stepOf n i c) (stepOf n i d)
 
 -- a link event and another input, in either order: each is answered as if it came first
 pub record SameAnswers (n x : ℕ) (i : Input) (c : Chip) : Type 0 where

@@ -16,21 +16,14 @@ use Rattle.rules.specs.Step.{Input, driver, frame, sent, link, lent, serve, ste
 use Rattle.wellformed.specs.Fit.{fit-decides, step-unfit}
 use Rattle.wellformed.specs.Keeps.{keeps}
 use Rattle.laws.specs.Head.{headPages}
-use Rattle.laws.specs.LinkApart.{linked, ByLink, valueBeside, butStatus, ApartAfter, LinkApart, SameAnswers, linkFirst, linkLast}
+use Rattle.laws.specs.LinkApart.{linked, ByLink, valueBeside, butStatus, ApartAfter, TurnsApart, LinkApart, SameAnswers, linkFirst, linkLast}
 use Rattle.laws.specs.LinkSteps.{pick-alike, accesses, arrives, plugs}
 use Rattle.laws.specs.LinkSends.{finishes}
 use Rattle.laws.specs.LinkKept.{frame-leaves-link, send-leaves-link}
 
--- two turns of one input, on c and on the chip with another link
-record Apart (i : Input) (c : Chip) (t u : Turn) : Type 0 where
-  number : u .reply .number ≡ t .reply .number
-  value : valueBeside i c (u .reply .value) ≡ valueBeside i c (t .reply .value)
-  output : u .output ≡ t .output
-  after : ApartAfter i c t u
-
 module _ (y : Link) (c : Chip) where
   -- refusal 16 on both
-  unfit-both : (i : Input) → Apart i c (refused 16 c (lent i)) (refused 16 (linked y c) (lent i))
+  unfit-both : (i : Input) → TurnsApart i c (refused 16 c (lent i)) (refused 16 (linked y c) (lent i))
   unfit-both i = record { number = refl; value = refl; output = refl; after = leaves i }
     where
       leaves : (j : Input) → ApartAfter j c (refused 16 c (lent i)) (refused 16 (linked y c) (lent i))
@@ -39,7 +32,7 @@ module _ (y : Link) (c : Chip) where
       leaves (sent s out) = (λ e. refl, λ e. refl)
       leaves (link x) = refl
 
-  serves : (i : Input) → Apart i c (serve i c) (serve i (linked y c))
+  serves : (i : Input) → TurnsApart i c (serve i c) (serve i (linked y c))
   unfolding serve
   serves (driver a) = let w = accesses y c a in record { number = w .number; value = w .value; output = refl; after = w .chips }
   serves (frame f) = let w = arrives y c f in record { number = w .number; value = w .value; output = refl; after = w .chips }
@@ -49,9 +42,7 @@ module _ (y : Link) (c : Chip) where
   -- whether 16 comes first looks at no link
   steps : (n : ℕ) (i : Input) → LinkApart n i c (linked y c)
   unfolding stepOf fit formed
-  steps n i =
-      let w = pick-alike (Apart i c) (not (fit n c)) (unfit-both i) (serves i) in
-      record { number = w .number; value = w .value; output = w .output; after = w .after }
+  steps n i = pick-alike (TurnsApart i c) (not (fit n c)) (unfit-both i) (serves i)
 
 -- Any input to two chips that differ at most in link and change seen: they answer the same but for what shows the link, and differ as little afterwards.
 pub link-apart : (n : ℕ) (i : Input) (c d : Chip) → ByLink c d → LinkApart n i c d
