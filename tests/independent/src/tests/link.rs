@@ -9,6 +9,7 @@ use crate::link::Link;
 use crate::memory::Layout;
 use crate::refusal::Refusal;
 use crate::registers::Width::{Byte, Word};
+use crate::told::tell;
 use crate::watch;
 
 const UP: Link = Link {
@@ -430,6 +431,24 @@ fn both_chips_have_a_link() {
     let strips: StripBench = run_on();
     assert_eq!(paged.chip.registers.link, DOWN);
     assert_eq!(strips.chip.registers.link, DOWN);
+}
+
+/// The last two numbers of the registers' line; EPHSR is the stored one.
+#[test]
+fn the_link_is_told() {
+    let turns: [(&[u8], &str); 4] = [
+        (&[], " 1 0 0 0 0"),
+        (&[1], " 1 0 0 1 1"),
+        (&[1, 0], " 1 0 0 0 1"),
+        (&[1, 9], " 1 0 0 1 1"),
+    ];
+    for (states, end) in turns {
+        let records: Vec<_> = states.iter().map(|&state| record(&[8, state])).collect();
+        let told = tell(&records);
+        let registers = told.lines().nth(records.len()).unwrap();
+        assert!(registers.starts_with("registers 0 0 0 0 "), "{registers}");
+        assert!(registers.ends_with(end), "{registers}");
+    }
 }
 
 /// An allocation and a release between two events are no event of the link.
