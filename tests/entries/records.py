@@ -75,6 +75,11 @@ def send(outcome=0, collisions=0, deferral=0, lacking=0):
     return bytes([7, outcome, collisions, deferral, lacking, 0, 0, 0])
 
 
+def plug(state):
+    """The link is set."""
+    return request(8, state)
+
+
 def line(number, value, back):
     """What is printed where an entry answers that and gives that record back."""
     return f"{number:02} {value:05} {back.sum():010}\n"

@@ -1,12 +1,12 @@
 #!/usr/bin/env python3
-"""Writes crates/entry_runs/stdin and stdout: records in order and damaged ones, each with an access, a frame or a send, the answer that the papers give it, and
+"""Writes crates/entry_runs/stdin and stdout: records in order and damaged ones, each with an access, a frame, a send or a link event, the answer that the papers give it, and
 the record after it. The memory and the wire are those that the cases before left: a send puts out to the wire, with its FCS, and a frame comes from it. FCSs are zlib's.
 
 usage: tests/entries/write.py      (in the repository's top folder)
 """
 import zlib
 
-from records import CONTROL, ECR, EPHSR, INTERRUPT, LATCHES, LINK, POINTER, RCR, RESERVED, STATION, Record, frame, line, request, send
+from records import CONTROL, ECR, EPHSR, INTERRUPT, LATCHES, LINK, POINTER, RCR, RESERVED, STATION, Record, frame, line, plug, request, send
 
 MIR, MIR_HIGH, HEADS, COMMAND, DATA = 0x08, 0x09, 0x04, 0x00, 0x08
 RXEN, ALL, STRIP, RX_ABORT = 0x0100, 0x0002, 0x0200, 0x0001  # of RCR
@@ -80,7 +80,7 @@ def in_order():
     after = Record([(16, [0]), (17, [1])], rx=[16], tx=[17], bank=2, packet=18)
     done("release one in neither", 0, high(bank=2, packet=18), command(0xA0), after)
     done("completion may name a freed packet", 1560, three().word(9, 1).slot(48, 20), request(2, MIR))
-    for kind in (0, 5, 8, 255):
+    for kind in (0, 5, 9, 255):
         refused("no record of an entry", 17, three(), request(kind, MIR))
 
 
@@ -354,6 +354,19 @@ def link_sent():
         done("  its status word", SENT + BROADCAST + LINK_OK * (link % 2), reading, request(2, DATA))
 
 
+def link_set():
+    """"The same state again is no change", and leaves one that was seen; "11 for any other byte 1", behind 16."""
+    for link in (0, UP, CHANGED, UP + CHANGED):
+        for state in (0, 1):
+            changed = CHANGED if state != link % 2 else link - link % 2
+            done(f"link {link}, set to {state}", 0, three().word(LINK, link), plug(state), three().word(LINK, state + changed))
+    done("EPHSR as it was stored", 0, three().word(EPHSR, LINK_OK).word(LINK, UP), plug(0), three().word(EPHSR, LINK_OK).word(LINK, CHANGED))
+    for state in (2, 255):
+        refused("outside the limits", 11, three().word(LINK, UP), plug(state))
+    damaged("a bit above, before 11", three().word(LINK, 4), plug(2))
+    damaged("free count one less", three().word(4, 24 + 256 * 5), plug(1))
+
+
 def link_damaged():
     for word in (4, 5, 0x0100, 0x8003):
         damaged("a bit above the link and its change", three().word(LINK, word))
@@ -371,6 +384,7 @@ def main():
     frames_not_stored()
     sends_refused()
     sends_done()
+    link_set()
     link_shown()
     link_left()
     link_sent()
