@@ -72,11 +72,7 @@ pub fn read_register(words: &[u16], queues: &[u8], at: usize, width: Width, offs
         TCR | RCR | STATION | STATION_2 | CONTROL | COMMAND | POINTER | TABLE | TABLE_2 => {
             gives(width, offset, words[at])
         }
-        RESERVED | STATION_1 | PACKET | TABLE_1 | TABLE_3 => gives(
-            width,
-            offset,
-            words[at],
-        ),
+        RESERVED | STATION_1 | PACKET | TABLE_1 | TABLE_3 => gives(width, offset, words[at]),
         // banks 5 to 7
         _ => gives(width, offset, 0x3333),
     }

@@ -1,4 +1,5 @@
 // Interrupt status, EPH, acknowledge, and the line.
+use crate::link::has_changed;
 use crate::words::high_only;
 use crate::words::latches_after;
 use state::Answer;
@@ -42,6 +43,7 @@ fn failed(ephsr: u16) -> bool
 
 // EPH: a counter is full, a send has failed, or a change of the link was seen.
 fn eph(ephsr: u16, control: u16, link: u16) -> bool
+    requires { ⌜ link < 4 ⌝ }
     ensures { λ b. ⌜ b ≡ (bit 12 ephsr && bit 6 control) || (rules.failed ephsr && bit 5 control) || (bit 1 link && bit 7 control) ⌝ }
 {
     let full = bits::both(
@@ -49,10 +51,7 @@ fn eph(ephsr: u16, control: u16, link: u16) -> bool
         bits::is_set(control, flags::CR_ENABLE),
     );
     let fail = bits::both(failed(ephsr), bits::is_set(control, flags::TE_ENABLE));
-    let change = bits::both(
-        bits::is_set(link, flags::LINK_CHANGED),
-        bits::is_set(control, flags::LE_ENABLE),
-    );
+    let change = bits::both(has_changed(link), bits::is_set(control, flags::LE_ENABLE));
     bits::either(bits::either(full, fail), change)
 }
 

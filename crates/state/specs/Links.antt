@@ -34,6 +34,11 @@ pub two-bits : (x : ℕ) → x < 4 → x ≡ flag (bit 0 x) + 2 * flag (bit 1 x)
 unfolding bit flag
 two-bits = below-four (λ x. x ≡ flag (bit 0 x) + 2 * flag (bit 1 x)) refl refl refl refl
 
+-- Its bit 1 is set where it is above 1.
+pub change-bit : (x : ℕ) → x < 4 → ltb 1 x ≡ bit 1 x
+unfolding bit
+change-bit = below-four (λ x. ltb 1 x ≡ bit 1 x) refl refl refl refl
+
 -- Bit 0 alone is the link, and no change.
 pub forgets : (x kept : ℕ) → kept ≡ x % 2 → linkIn kept ≡ record { up = bit 0 x; changed = false }
 unfolding bit

@@ -34,8 +34,6 @@ pub const LOST_CARR: u16 = 10;
 
 pub const CTR_ROL: u16 = 12;
 
-pub const LINK_OK: u16 = 14;
-
 pub const TXUNRN: u16 = 15;
 
 // Receive control, RCR.
@@ -62,9 +60,7 @@ pub const AUTO_RELEASE: u16 = 11;
 
 pub const RCV_BAD: u16 = 14;
 
-// The link's word: is it up, and was a change of it seen.
-pub const LINK_UP: u16 = 0;
-
+// The link's word: a change of it was seen. (`link.rt` has the link itself, and EPHSR's LINK_OK, which shows it.)
 pub const LINK_CHANGED: u16 = 1;
 
 // The allocation result's bit 7, FAILED, where it stands in the word: above the packet number.
