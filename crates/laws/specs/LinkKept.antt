@@ -1,6 +1,6 @@
 -- Who changes the link: link events alone. Who forgets that it changed: a write to a control byte and a soft reset. Of every chip, well formed or not.
 use mathlib.Core.Path.{_≡_, refl, ap}
-use mathlib.Core.Bool.{false, xor, _||_}
+use mathlib.Core.Bool.{true, false, xor, _||_}
 use mathlib.Core.Logic.{_⊎_, inl, inr, ⊎-elim}
 use mathlib.Core.List.{List, []}
 use Prim.Native.Nat.{ℕ}
@@ -21,9 +21,43 @@ use Rattle.rules.specs.Step.{Input, driver, frame, sent, link, serve, stepOf}
 use Rattle.wellformed.specs.Cases.{pick, by-settle, by-head, by-idle, by-packet, by-tests, by-lanes, by-read, by-send, by-step}
 use Rattle.laws.specs.Reception.{frame-is}
 
--- a link after another: the same, or the same with the change forgotten
-abbrev pub Kept : Link → Link → Type 0
-Kept x y = (y ≡ x) ⊎ ((y .up ≡ x .up) × (y .changed ≡ false))
+-- a write that reaches this register and leaves the chip d may forget the change: "a write to either control byte", and a soft reset, which leaves RCR bit 15 set
+abbrev pub ForgetsAt : Register → Chip → Type 0
+ForgetsAt CONTROL d = Unit {0}
+ForgetsAt RCR d = bit 15 (d .regs .receiving .rcr) ≡ true
+ForgetsAt TCR d = ⊥
+ForgetsAt EPHSR d = ⊥
+ForgetsAt ECR d = ⊥
+ForgetsAt MIR d = ⊥
+ForgetsAt RESERVED d = ⊥
+ForgetsAt (STATION k) d = ⊥
+ForgetsAt COMMAND d = ⊥
+ForgetsAt PACKET d = ⊥
+ForgetsAt HEADS d = ⊥
+ForgetsAt POINTER d = ⊥
+ForgetsAt DATA d = ⊥
+ForgetsAt INTERRUPT d = ⊥
+ForgetsAt (TABLE k) d = ⊥
+ForgetsAt BANK d = ⊥
+ForgetsAt UNUSED d = ⊥
+ForgetsAt ABSENT d = ⊥
+
+-- no other input does
+abbrev pub Forgets : Input → Chip → Chip → Type 0
+Forgets (driver (read w o)) c d = ⊥
+Forgets (driver (write w o v)) c d = ForgetsAt (registerAt (c .regs .numbers .bank) o) d
+Forgets (frame f) c d = ⊥
+Forgets (sent s out) c d = ⊥
+Forgets (link x) c d = ⊥
+
+-- a link with its change forgotten
+abbrev pub forgotten : Link → Link
+forgotten x = record { up = x .up; changed = false }
+
+-- RCR after a soft reset
+reset-leaves : bit 15 0x8000 ≡ true
+unfolding bit
+reset-leaves = refl
 
 module _ (c : Chip) where
   -- the link is that of c
@@ -33,8 +67,12 @@ module _ (c : Chip) where
   abbrev SameIn : Effect → Type 0
   SameIn e = Same (e .chip)
 
-  abbrev KeptIn : Effect → Type 0
-  KeptIn e = Kept (c .regs .link) (e .chip .regs .link)
+  -- or that with its change forgotten, where F says that it may be
+  abbrev Kept : (Chip → Type 0) → Chip → Type 0
+  Kept F d = Same d ⊎ (F d × (d .regs .link ≡ forgotten (c .regs .link)))
+
+  abbrev KeptIn : Register → Effect → Type 0
+  KeptIn r e = Kept (ForgetsAt r) (e .chip)
 
   -- No grant of what waits, no command and no data access touches it.
   settled : (d : Chip) → Same d → Same (settle d)
@@ -67,16 +105,16 @@ module _ (c : Chip) where
   writes-interrupt high v = refl
   writes-interrupt both v = refl
 
-  writes : (r : Register) (p : Lanes) (v : ℕ) → KeptIn (writeRegister r p v c)
+  writes : (r : Register) (p : Lanes) (v : ℕ) → KeptIn r (writeRegister r p v c)
   unfolding writeRegister writeRcr writeTcr
   writes TCR p v = inl (pick (λ (r : Registers). Same (inRegisters (λ z. r) c)) (bit 0 _) refl refl)
   writes EPHSR p v = inl refl
-  writes RCR p v = pick (λ (d : Chip). Kept (c .regs .link) (d .regs .link)) (bit 15 (newRcr p v (c .regs .receiving .rcr))) (inr (refl, refl)) (inl refl)
+  writes RCR p v = pick (Kept (ForgetsAt RCR)) (bit 15 (newRcr p v (c .regs .receiving .rcr))) (inr (reset-leaves, refl)) (inl refl)
   writes ECR p v = inl refl
   writes MIR p v = inl refl
   writes RESERVED p v = inl (by-lanes c SameIn p _ refl refl)
   writes (STATION k) p v = inl refl
-  writes CONTROL p v = inr (refl, refl)
+  writes CONTROL p v = inr (tt, refl)
   writes COMMAND p v = inl (by-lanes c SameIn p _ refl (performs (decode (lowByte v))))
   writes PACKET p v = inl (by-lanes c SameIn p _ refl refl)
   writes HEADS p v = inl refl
@@ -89,10 +127,10 @@ module _ (c : Chip) where
   writes ABSENT p v = inl refl
 
   -- All accesses, frames and sends.
-  accesses : (a : Access) → KeptIn (access a c)
+  accesses : (a : Access) → Kept (Forgets (driver a) c) (access a c .chip)
   unfolding access
   accesses (read w o) = inl (pick SameIn (misplaced w o) refl (by-read c SameIn refl (λ v. refl) (λ v. refl) reads-data (registerAt (c .regs .numbers .bank) o) (lanesAt w o)))
-  accesses (write w o v) = pick KeptIn (misplaced w o) (inl refl) (writes (registerAt (c .regs .numbers .bank) o) (lanesAt w o) v)
+  accesses (write w o v) = pick (λ (e : Effect). Kept (Forgets (driver (write w o v)) c) (e .chip)) (misplaced w o) (inl refl) (writes (registerAt (c .regs .numbers .bank) o) (lanesAt w o) v)
 
   arrives : (f : Frame) → SameIn (arrive f c)
   arrives f = ap (λ (e : Effect). e .chip .regs .link) (frame-is f c)
@@ -119,17 +157,17 @@ send-leaves-link n s out c = by-step c (SameBy c) n (sent s out) refl (finishes 
 abbrev pub NoLinkEvent : Input → Type 0
 NoLinkEvent i = (x : ℕ) → i ≡ link x → ⊥
 
--- Any input but a link event leaves the link, or forgets that it changed.
-pub changed-until : (n : ℕ) (i : Input) (c : Chip) → NoLinkEvent i → Kept (c .regs .link) (stepOf n i c .chip .regs .link)
+-- "a change of it is remembered until a write to either control byte": any input but a link event leaves link and change, or is such a write or a soft reset, and forgets the change.
+pub changed-until : (n : ℕ) (i : Input) (c : Chip) → NoLinkEvent i → Kept c (Forgets i c) (stepOf n i c .chip)
 unfolding serve
-changed-until n (driver a) c h = by-step c (λ t. Kept (c .regs .link) (t .chip .regs .link)) n (driver a) (inl refl) (accesses c a)
+changed-until n (driver a) c h = by-step c (λ (t : Turn). Kept c (Forgets (driver a) c) (t .chip)) n (driver a) (inl refl) (accesses c a)
 changed-until n (frame f) c h = inl (frame-leaves-link n f c)
 changed-until n (sent s out) c h = inl (send-leaves-link n s out c)
 changed-until n (link x) c h = absurd (h x refl)
 
 -- So the link goes up and down by link events alone.
 pub only-link-events : (n : ℕ) (i : Input) (c : Chip) → NoLinkEvent i → stepOf n i c .chip .regs .link .up ≡ c .regs .link .up
-only-link-events n i c h = ⊎-elim (λ e. ap (λ (x : Link). x .up) e) (λ e. e .0) (changed-until n i c h)
+only-link-events n i c h = ⊎-elim (λ e. ap (λ (x : Link). x .up) e) (λ w. ap (λ (x : Link). x .up) (w .1)) (changed-until n i c h)
 
 -- One that is done sets it to its byte and remembers a change.
 pub link-sets : (n x : ℕ) (c : Chip) → stepOf n (link x) c .reply .number ≡ 0
