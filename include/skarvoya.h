@@ -69,6 +69,10 @@ uint32_t skarvoya_frame(uint16_t *words, size_t words_n, uint32_t *sets, size_t 
 uint32_t skarvoya_send(uint16_t *words, size_t words_n, uint32_t *sets, size_t sets_n, uint8_t *queues, size_t queues_n, uint8_t *memory, size_t memory_n,
 		       uint8_t *output, size_t output_n, uint8_t outcome, uint8_t collisions, uint8_t deferral);
 
+/* The link is set down (0) or up (1), as by a cable that is pulled or plugged in; any other number is refused with 11. The value is 0. */
+uint32_t skarvoya_link(uint16_t *words, size_t words_n, const uint32_t *sets, size_t sets_n, const uint8_t *queues, size_t queues_n, const uint8_t *memory, size_t memory_n,
+		       uint8_t up);
+
 /* The interrupt line: the value is 1 where it is up, else 0. */
 uint32_t skarvoya_line(const uint16_t *words, size_t words_n, const uint32_t *sets, size_t sets_n, const uint8_t *queues, size_t queues_n);
 
@@ -125,6 +129,11 @@ static inline uint32_t skarvoya_chip_frame(struct skarvoya_chip *c, const uint8_
 static inline uint32_t skarvoya_chip_send(struct skarvoya_chip *c, uint8_t *output, size_t n, uint8_t outcome, uint8_t collisions, uint8_t deferral)
 {
 	return skarvoya_send(SKARVOYA_CHIP(c), output, n, outcome, collisions, deferral);
+}
+
+static inline uint32_t skarvoya_chip_link(struct skarvoya_chip *c, uint8_t up)
+{
+	return skarvoya_link(SKARVOYA_CHIP(c), up);
 }
 
 static inline uint32_t skarvoya_chip_line(const struct skarvoya_chip *c)

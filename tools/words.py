@@ -1,4 +1,4 @@
-"""The words that tools/rec has for registers, bits, commands, refusals, arrivals and sends: tables in the words and the order of documents 01 and 02; the bits have the data sheet's names."""
+"""The words that tools/rec has for registers, bits, commands, refusals, arrivals, sends and the link: tables in the words and the order of documents 01 and 02; the bits have the data sheet's names."""
 from collections import namedtuple
 
 REFUSALS = {
@@ -54,13 +54,13 @@ def numbers(unanswered):
 
 TCR = bits({0: "TXENA", 7: "PAD_EN", 8: "NOCRC", 10: "MON_CSN", 12: "STP_SQET", 15: "FDSE"})
 EPHSR = bits({0: "TX_SUC", 1: "SNGLCOL", 2: "MULCOL", 3: "LTX_MULT", 4: "16COL", 5: "SQET", 6: "LTX_BRD"})
-EPHSR += bits({9: "LATCOL", 10: "LOST_CARR", 12: "CTR_ROL", 15: "TXUNRN"})
+EPHSR += bits({9: "LATCOL", 10: "LOST_CARR", 12: "CTR_ROL", 14: "LINK_OK", 15: "TXUNRN"})
 RCR = bits({0: "RX_ABORT", 1: "PRMS", 2: "ALMUL", 8: "RXEN", 9: "STRIP_CRC", 15: "SOFT_RST"})
 ECR = (Part(0, 4, "single collision {}", {0: ""}), Part(4, 4, "multiple collision {}", {0: ""}))
 ECR += (Part(8, 4, "deferred {}", {0: ""}), Part(12, 4, "excessively deferred {}", {0: ""}))
 MIR = (Part(0, 8, "{} pages"), Part(8, 8, "{} free"))
 RESERVED = (Part(0, 8, "{} pages"), Part(8, 8, ""))
-CONTROL = bits({5: "TE ENABLE", 6: "CR ENABLE", 11: "AUTO RELEASE", 14: "RCV_BAD"})
+CONTROL = bits({5: "TE ENABLE", 6: "CR ENABLE", 7: "LE ENABLE", 11: "AUTO RELEASE", 14: "RCV_BAD"})
 HEADS = (Part(0, 8, "packet {}", {0x80: "empty"}, "completion "), Part(8, 8, "packet {}", {0x80: "empty"}, "RX "))
 POINTER = (Part(0, 11, "address {}"), *bits({13: "READ", 14: "AUTO INCR", 15: "RCV"}))
 INTERRUPTS = {0: "RCV", 1: "TX", 2: "TX EMPTY", 3: "ALLOC", 4: "RX_OVRN", 5: "EPH"}
@@ -91,7 +91,7 @@ REGISTERS = {
 # what a write means where a read means something else
 WRITTEN = {(2, 0xC): Register("acknowledge and mask", "acknowledge", "interrupt mask", ACKNOWLEDGE + MASK)}
 # the registers that are followed, and their bits
-RCR_AT, COMMAND_AT, NUMBERS_AT, HEADS_AT, POINTER_AT = (0, 0x4), (2, 0x0), (2, 0x2), (2, 0x4), (2, 0x6)
+RCR_AT, CONTROL_AT, COMMAND_AT, NUMBERS_AT, HEADS_AT, POINTER_AT = (0, 0x4), (1, 0xC), (2, 0x0), (2, 0x2), (2, 0x4), (2, 0x6)
 DATA_AT, BANK_OFFSET = ((2, 0x8), (2, 0xA)), 0xE
 SOFT_RST, RCV, AUTO_INCR, ADDRESSES = 1 << 15, 1 << 15, 1 << 14, 2048
 
@@ -129,3 +129,6 @@ ARRIVALS = {
 # a send finishes: the outcomes with the collisions that go without saying, and the deferrals
 OUTCOMES = {"good": 0, "sixteen-collisions": 16, "late-collision": 0, "lost-carrier": 0, "sqe-missing": 0, "underrun": 0}
 DEFERRALS = ("", "deferred", "excessive")
+
+# a cable is moved: the states of the link
+LINKS = ("down", "up")

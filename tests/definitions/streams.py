@@ -32,9 +32,9 @@ def expected(records):
     yield from bytes.fromhex(output[1] + memory[1])
 
 
-# every definition that has to unfold, under a name with its module in front
+# every definition that has to unfold, under a name with its module in front: the library's that the rules use, and those of the rules and of Told
 modules = [("rules", name, f"{specs}/{name}.antt") for name in re.findall(r"^pub mod (\S+)", open(f"{specs}/Lib.antt").read(), flags=re.M)]
-uses, unfolded = [], []
+uses, unfolded = ["use mathlib.Core.Bool.{xor as Bool·xor}"], ["Bool·xor"]
 for crate, module, path in [*modules, ("streams·specs", "Told", f"{here}/Told.module")]:
     names = unfoldable(path)
     unfolded += [f"{module}·{name}" for name in names]

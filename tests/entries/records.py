@@ -1,7 +1,7 @@
 """A chip as the public entries take it, by document 01's rules and the places of crates/state/src/places.rt; and a case of crates/entry_runs with it."""
 
 # places of words
-TCR, EPHSR, RCR, ECR, MIR, RESERVED, BANK, STATION, LATCHES, CONTROL, POINTER = 0, 1, 2, 3, 4, 5, 7, 10, 13, 14, 19
+TCR, EPHSR, RCR, ECR, MIR, RESERVED, BANK, STATION, LATCHES, CONTROL, LINK, POINTER, INTERRUPT = 0, 1, 2, 3, 4, 5, 7, 10, 13, 14, 15, 19, 22
 
 
 class Record:
@@ -73,6 +73,11 @@ def frame(length, flags=0):
 def send(outcome=0, collisions=0, deferral=0, lacking=0):
     """The head of TX has been sent; the output buffer has 2,052 bytes less those lacking."""
     return bytes([7, outcome, collisions, deferral, lacking, 0, 0, 0])
+
+
+def plug(state):
+    """The link is set."""
+    return request(8, state)
 
 
 def line(number, value, back):

@@ -1,21 +1,22 @@
 #!/usr/bin/env python3
-"""Writes crates/entry_runs/stdin and stdout: records in order and damaged ones, each with an access, a frame or a send, the answer that the papers give it, and
+"""Writes crates/entry_runs/stdin and stdout: records in order and damaged ones, each with an access, a frame, a send or a link event, the answer that the papers give it, and
 the record after it. The memory and the wire are those that the cases before left: a send puts out to the wire, with its FCS, and a frame comes from it. FCSs are zlib's.
 
 usage: tests/entries/write.py      (in the repository's top folder)
 """
 import zlib
 
-from records import CONTROL, ECR, EPHSR, LATCHES, POINTER, RCR, RESERVED, STATION, Record, frame, line, request, send
+from records import CONTROL, ECR, EPHSR, INTERRUPT, LATCHES, LINK, POINTER, RCR, RESERVED, STATION, Record, frame, line, plug, request, send
 
 MIR, MIR_HIGH, HEADS, COMMAND, DATA = 0x08, 0x09, 0x04, 0x00, 0x08
 RXEN, ALL, STRIP, RX_ABORT = 0x0100, 0x0002, 0x0200, 0x0001  # of RCR
-KEEP_BAD, AUTO_RELEASE = 0x4000, 0x0800  # of control
+KEEP_BAD, AUTO_RELEASE, LE_ENABLE = 0x4000, 0x0800, 0x0080  # of control
 TXENA, PAD, NOCRC, STOP_ON_CARRIER = 0x0001, 0x0080, 0x0100, 0x0400  # of TCR
 ODD_DATA, WITH_CRC = 0x2000, 0x1000  # of a packet's control byte, in its word
 FCS = 4  # bytes
-SENT, BROADCAST = 0x0001, 0x0040  # of EPHSR
-TX_EMPTY, OVERRUN = 4, 16  # of the latches
+SENT, BROADCAST, LINK_OK = 0x0001, 0x0040, 0x4000  # of EPHSR
+RX, TX_EMPTY, OVERRUN, EPH = 1, 4, 16, 32  # of the interrupt status; two are latches
+UP, CHANGED = 1, 2  # of the link's word
 cases, lines = [], []
 
 
@@ -79,7 +80,7 @@ def in_order():
     after = Record([(16, [0]), (17, [1])], rx=[16], tx=[17], bank=2, packet=18)
     done("release one in neither", 0, high(bank=2, packet=18), command(0xA0), after)
     done("completion may name a freed packet", 1560, three().word(9, 1).slot(48, 20), request(2, MIR))
-    for kind in (0, 5, 8, 255):
+    for kind in (0, 5, 9, 255):
         refused("no record of an entry", 17, three(), request(kind, MIR))
 
 
@@ -120,7 +121,7 @@ def wrong_before():
     damaged("no 33h above the reserved pages", three().word(5, 0))
     damaged("packet number 64", three().word(17, 0x8040))
     damaged("allocation result 24", three().word(17, 0x1800))
-    damaged("a word that holds nothing", three().word(15, 1))
+    damaged("a word that holds nothing", three().word(20, 1))
 
 
 def written(address, value):
@@ -213,6 +214,7 @@ def frames_stored():
     on_wire(64)
     stored("64 bytes", receiving(), frame(64), lambda: held([0]), (0, 0), (2, 70), (62, 0), (64, low), (66, high), (68, 0x4000))
     stored("bit 0 is ignored", receiving(), frame(64, 1), lambda: held([0]), (0, 0))
+    stored("whatever the link", receiving().word(LINK, CHANGED), frame(64), lambda: held([0]).word(LINK, CHANGED), (2, 70))
     stored("alignment, kept", receiving(KEEP_BAD), frame(64, 2), lambda: held([0], KEEP_BAD), (0, 0x8000))
     stored("64 bytes less the FCS", receiving(bits=STRIP), frame(64), lambda: held([0], bits=STRIP), (0, 0), (2, 66), (62, 0))
     stored("to another station, all accepted", receiving(bits=ALL).word(STATION, 2), frame(64), lambda: held([0], bits=ALL).word(STATION, 2), (2, 70))
@@ -310,6 +312,69 @@ def sends_done():
          Record([(k, [k]) for k in range(24)], tx=range(1, 24), completion=[0], tcr=TXENA).word(EPHSR, SENT + BROADCAST))
 
 
+def link_shown():
+    """The link is bit 0 of its word and its change bit 1; EPHSR shows it at bit 14, "whatever a lent record has stored there" (W8)."""
+    for link in (0, UP, CHANGED, UP + CHANGED):
+        for stored in (0x0000, LINK_OK + 0x1008):
+            shown = stored % LINK_OK + LINK_OK * (link % 2)
+            done(f"EPHSR {stored:04x}, link {link}", shown, three().word(EPHSR, stored).word(LINK, link), request(2, 0x02))
+    done("the high byte, up", 0x40, three().word(LINK, UP), request(1, 0x03))
+    done("the high byte, down", 0x90, three().word(EPHSR, LINK_OK + 0x9001), request(1, 0x03))
+    done("the low byte", 0x01, three().word(EPHSR, LINK_OK + 0x9001).word(LINK, UP), request(1, 0x02))
+    for link, control, eph in (
+        (UP, LE_ENABLE, 0), (CHANGED, LE_ENABLE, EPH), (UP + CHANGED, LE_ENABLE, EPH), (UP + CHANGED, 0xFFFF - LE_ENABLE, 0), (UP, 0xFFFF, 0),
+    ):
+        done(f"status, control {control:04x}, link {link}", RX + TX_EMPTY + eph, three(bank=2).word(CONTROL, control).word(LINK, link), request(1, 0x0C))
+
+
+def link_left():
+    """What forgets a change of the link, and what leaves it."""
+    for link in (UP, 0):
+        changed = lambda bank: three(bank=bank).word(CONTROL, 0x1080).word(LINK, link + CHANGED)
+        forgotten = lambda control: three(bank=1).word(CONTROL, control).word(LINK, link)
+        done("control, low byte", 0, changed(1), request(3, 0x0C, 0x00), forgotten(0x1000))
+        done("control, high byte", 0, changed(1), request(3, 0x0D, 0x20), forgotten(0x2080))
+        done("control, as it was", 0, changed(1), request(4, 0x0C, 0x1080), forgotten(0x1080))
+        done("soft reset", 0, changed(0), request(4, 0x04, 0x8000), Record().word(RCR, 0x8000).word(LINK, link))
+    both = UP + CHANGED
+    done("acknowledge of EPH", 0, three(bank=2).word(LINK, both), request(3, 0x0C, EPH))
+    done("mask", 0, three(bank=2).word(LINK, both), request(3, 0x0D, EPH), three(bank=2).word(LINK, both).word(INTERRUPT, 256 * EPH))
+    done("40h", 0, three(bank=2).word(LINK, both), command(0x40), Record(bank=2).word(LINK, both))
+    done("TCR, EPHSR stored with bit 14", 0, three().word(EPHSR, 0xFFFF).word(LINK, CHANGED), request(3, 0x00, TXENA),
+         three(tcr=TXENA).word(EPHSR, 0x79CE).word(LINK, CHANGED))
+    done("ECR", 0x00F0, three().word(EPHSR, 0x5000).word(ECR, 0x00F0).word(LINK, CHANGED), request(2, 0x06), three().word(EPHSR, 0x4000).word(LINK, CHANGED))
+
+
+def link_sent():
+    """Packet 2 has six bytes, to all stations. The status word of a send shows the link, and EPHSR is stored without it."""
+    for link, stored in ((UP + CHANGED, 0), (CHANGED, LINK_OK)):
+        after = sent().word(EPHSR, SENT + BROADCAST).word(LINK, link)
+        done(f"a send, link {link}", 6 + FCS, sending().word(EPHSR, stored).word(LINK, link), send(), after)
+        reading = three(bank=2, packet=2).word(POINTER, 0x2000)
+        done("  its status word", SENT + BROADCAST + LINK_OK * (link % 2), reading, request(2, DATA))
+
+
+def link_set():
+    """"The same state again is no change", and leaves one that was seen; "11 for any other byte 1", behind 16."""
+    for link in (0, UP, CHANGED, UP + CHANGED):
+        for state in (0, 1):
+            changed = CHANGED if state != link % 2 else link - link % 2
+            done(f"link {link}, set to {state}", 0, three().word(LINK, link), plug(state), three().word(LINK, state + changed))
+    done("EPHSR as it was stored", 0, three().word(EPHSR, LINK_OK).word(LINK, UP), plug(0), three().word(EPHSR, LINK_OK).word(LINK, CHANGED))
+    for state in (2, 255):
+        refused("outside the limits", 11, three().word(LINK, UP), plug(state))
+    damaged("a bit above, before 11", three().word(LINK, 4), plug(2))
+    damaged("free count one less", three().word(4, 24 + 256 * 5), plug(1))
+
+
+def link_damaged():
+    for word in (4, 5, 0x0100, 0x8003):
+        damaged("a bit above the link and its change", three().word(LINK, word))
+    damaged("the same, where a write would forget it", three(bank=1).word(LINK, 7), request(3, 0x0C, LE_ENABLE))
+    damaged("the same, before 11", three().word(LINK, 4), frame(17))
+    damaged("the same, of a send", sending().word(LINK, 4), send())
+
+
 def main():
     in_order()
     wrong_figures()
@@ -319,6 +384,11 @@ def main():
     frames_not_stored()
     sends_refused()
     sends_done()
+    link_set()
+    link_shown()
+    link_left()
+    link_sent()
+    link_damaged()
     # at the end a case that is cut short
     open("crates/entry_runs/stdin", "wb").write(b"".join(cases) + three().case(request(2, MIR))[:-1])
     open("crates/entry_runs/stdout", "w").write("".join(lines))

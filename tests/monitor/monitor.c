@@ -97,7 +97,7 @@ static struct lent {
 	struct skarvoya_bench b;
 	struct { size_t words, sets, queues, memory, wire, output, frame, bytes, line; } n;
 	bool flag;
-	uint8_t offset, outcome, collisions, deferral, bytes[8], line[64];
+	uint8_t offset, outcome, collisions, deferral, up, bytes[8], line[64];
 	uint16_t value;
 	size_t printed;
 	uint32_t answer;
@@ -111,6 +111,7 @@ static void access_read(void *none) { l.answer = skarvoya_read(CHIP, l.flag, l.o
 static void access_write(void *none) { l.answer = skarvoya_write(CHIP, l.flag, l.offset, l.value); }
 static void frame(void *none) { l.answer = skarvoya_frame(CHIP, l.b.wire, l.n.frame, l.flag); }
 static void send(void *none) { l.answer = skarvoya_send(CHIP, l.b.output, l.n.output, l.outcome, l.collisions, l.deferral); }
+static void link_set(void *none) { l.answer = skarvoya_link(CHIP, l.up); }
 static void line(void *none) { l.answer = skarvoya_line(STATE); }
 static void record(void *none)
 {
@@ -207,6 +208,10 @@ static uint32_t called(const uint8_t *bytes)
 		l.outcome = bytes[1], l.collisions = bytes[2], l.deferral = bytes[3];
 		small(send, 0);
 		return l.answer;
+	case 8:
+		l.up = bytes[1];
+		small(link_set, 0);
+		return l.answer;
 	}
 	return 17 << 16;
 }
@@ -264,6 +269,7 @@ static void by_each(const char *what, uint32_t answer)
 	expect(what, access_write, answer);
 	expect(what, frame, answer);
 	expect(what, send, answer);
+	expect(what, link_set, answer);
 	expect(what, record, answer);
 }
 
@@ -339,6 +345,12 @@ static void refusals(void)
 	l.b.chip.queues[71] = 1; /* behind the last entry */
 	damaged("a byte behind the queues' entries");
 	l.b.chip.queues[71] = 0;
+
+	l.b.chip.words[15] = 4; /* the link and its change are bits 0 and 1 */
+	damaged("a third bit of the link");
+	l.b.chip.words[15] = 0;
+	for (l.up = 2; l.up != 0; l.up = l.up == 2 ? 255 : 0)
+		expect("a link neither down nor up", link_set, 11 << 16);
 
 	/* a record of seven bytes gets 17 and its line, as does one of none; and the chip stays */
 	for (l.n.bytes = 7;; l.n.bytes = 0) {

@@ -1,6 +1,6 @@
 #!/usr/bin/env python3
 """Writes crates/bench_runs/stdin and stdout: the cases that document 01 marks "Run", how W1 of document 02 lets the last of them go on, the byte counts that W2 tells apart,
-and the frame check sequences of W4 (zlib's), each record with the answer that the papers give it.
+the frame check sequences of W4 (zlib's), and the link of W8, each record with the answer that the papers give it.
 
 usage: tests/runs/write.py      (in the repository's top folder)
 """
@@ -351,6 +351,114 @@ stored(wrong[1], 0xE000, flags=3)
 stored(wrong[4], 0x7000)
 stored(checked(ALL_STATIONS + b"123456789"), 0x5400)
 stored(ALL_STATIONS + b"123456789" + CHECK_VALUE, 0x7400)  # that is the FCS of another frame
+
+# W8: "A new event sets the link up or down. EPHSR bit 14 shows it", and a change of it raises EPH "while control bit 7 is set"
+LINK_OK, LE_ENABLE, EPH = 0x4000, 0x0080, 0x20
+
+
+def link(state, answer=0):
+    says(answer, 0, 8, state)
+
+
+def shows(ephsr, status):
+    """What a driver sees of the link, from bank 2: EPHSR, as a word and its high byte, and the interrupt status."""
+    write_byte(0x0E, 0)
+    says(0, ephsr, 2, 0x02)
+    says(0, ephsr // 256, 1, 0x03)
+    write_byte(0x0E, 2)
+    says(0, status, 1, 0x0C)
+
+
+# "At power-up the link is down with no change seen", and no cable was moved since; "11 for any other byte 1"
+enter(0, 0x04, 0x8000)
+enter(0, 0x04, 0x0000)
+enter(1, 0x0C, LE_ENABLE)
+shows(0, TX_EMPTY)
+link(0)  # the same state is no change
+link(2, answer=11)
+link(255, answer=11)
+shows(0, TX_EMPTY)
+link(1)
+shows(LINK_OK, TX_EMPTY + EPH)
+
+# remembered "until a write to either control byte": an acknowledge, a mask, 40h, the same state again and one that is refused leave the change; there and back again is one
+write_word(0x0C, 256 * EPH + EPH)
+write_byte(0x0D, 0)
+write_byte(0x00, 0x40)
+link(1)
+link(2, answer=11)
+shows(LINK_OK, TX_EMPTY + EPH)
+link(0)
+shows(0, TX_EMPTY + EPH)
+for state, offset, value in ((1, 0x0C, LE_ENABLE), (0, 0x0D, 0)):
+    write_byte(0x0E, 1)
+    write_byte(offset, value)  # of the two bytes either
+    write_byte(0x0E, 2)
+    shows(LINK_OK * (1 - state), TX_EMPTY)
+    link(state)
+    shows(LINK_OK * state, TX_EMPTY + EPH)
+enter(1, 0x0C, 0x0060)  # as a word: bits 5 and 6 do not raise EPH, and the write that sets bit 7 forgets, too
+shows(0, TX_EMPTY)
+link(1)
+shows(LINK_OK, TX_EMPTY)
+enter(1, 0x0C, LE_ENABLE)
+shows(LINK_OK, TX_EMPTY)
+
+# "sends leave it", and their status word shows it: to a station, so that bits 6 and 3 are clear
+enter(0, 0x00, TXENA)
+allocate(1)
+write_word(0x06, 0x4002)
+for word in (12, 0x0002, 0, 0, 0):
+    write_word(0x08, word)
+
+
+def leaves(status_word, outcome=0):
+    """Packet 0 is sent, and its status word read."""
+    write_byte(0x00, 0xC0)
+    says(0, 6 + FCS, 7, outcome)
+    says_status(status_word)
+
+
+def says_status(status_word):
+    write_word(0x06, 0x6000)
+    says(0, status_word, 2, 0x08)
+
+
+SEEN = COMPLETION + TX_EMPTY + ALLOCATION
+leaves(LINK_OK + 0x0001)
+shows(LINK_OK + 0x0001, SEEN)
+link(0)
+shows(0x0001, SEEN + EPH)
+says_status(LINK_OK + 0x0001)  # the word in memory is that of the send
+leaves(0x8000, outcome=5)
+shows(0x8000, SEEN + EPH)
+link(1)
+shows(LINK_OK + 0x8000, SEEN + EPH)
+
+# so do a write to TCR, which clears other bits of EPHSR, and a read of ECR
+enter(0, 0x00, TXENA)
+shows(LINK_OK, SEEN + EPH)
+write_byte(0x0E, 0)
+says(0, 0x0000, 2, 0x06)
+shows(LINK_OK, SEEN + EPH)
+
+# "a soft reset keeps the link and forgets the change"
+enter(0, 0x04, 0x8000)
+shows(LINK_OK, TX_EMPTY)
+enter(1, 0x0C, LE_ENABLE)
+shows(LINK_OK, TX_EMPTY)
+
+# "Frames arrive .. as before, whatever the link": one between whose bytes cables are moved, too
+enter(0, 0x04, 0x0100)  # RXEN
+for at in range(0, len(right), 6):
+    part = right[at : at + 6]
+    says(0, 0, 5, len(part), *part)
+    link(at // 6 % 3, answer=11 if at // 6 % 3 == 2 else 0)
+says(0, 0, 6)
+shows(LINK_OK, RX + TX_EMPTY + EPH)
+link(0)
+frame(64, 0)
+shows(0, RX + TX_EMPTY + EPH)
 
 open("crates/bench_runs/stdin", "wb").write(b"".join(records))
 open("crates/bench_runs/stdout", "w").write("".join(lines))

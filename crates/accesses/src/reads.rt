@@ -63,6 +63,7 @@ pub fn read_register(words: &[u16], queues: &[u8], at: usize, width: Width, offs
         MIR => gives(width, offset, words[MIR]),
         HEADS => gives(width, offset, registers::heads(words, queues)),
         INTERRUPT => gives(width, offset, registers::interrupt(words)),
+        EPHSR => gives(width, offset, registers::ephsr(words)),
         // the bank, at offset E of every bank
         7 | 15 | 23 | 31 | 39 | 47 | 55 | 63 => gives(width, offset, words[BANK]),
         // not modelled: bank 0, C; bank 1, 0, 2 and A; bank 3, 8, A and C; bank 4
@@ -71,11 +72,7 @@ pub fn read_register(words: &[u16], queues: &[u8], at: usize, width: Width, offs
         TCR | RCR | STATION | STATION_2 | CONTROL | COMMAND | POINTER | TABLE | TABLE_2 => {
             gives(width, offset, words[at])
         }
-        EPHSR | RESERVED | STATION_1 | PACKET | TABLE_1 | TABLE_3 => gives(
-            width,
-            offset,
-            words[at],
-        ),
+        RESERVED | STATION_1 | PACKET | TABLE_1 | TABLE_3 => gives(width, offset, words[at]),
         // banks 5 to 7
         _ => gives(width, offset, 0x3333),
     }

@@ -69,6 +69,7 @@ pub fn write_register(
     match at {
         TCR => registers::write_tcr(words, width, offset, value),
         RESERVED => registers::write_reserved(words, width, offset, value),
+        CONTROL => registers::write_control(words, width, offset, value),
         PACKET => registers::write_packet(words, width, offset, value),
         INTERRUPT => registers::write_interrupt(words, queues, width, offset, value),
         7 | 15 | 23 | 31 | 39 | 47 | 55 | 63 => {
@@ -78,7 +79,7 @@ pub fn write_register(
         MIR => Answer::ReadOnly,
         6 | 8 | 13 | 28 | 30 | 32 | 34 | 36 | 38 => Answer::NotModelled,
         9 | 29 | 33 | 35 | 37 => Answer::NotModelled,
-        STATION | STATION_2 | CONTROL | POINTER | TABLE | TABLE_2 => {
+        STATION | STATION_2 | POINTER | TABLE | TABLE_2 => {
             registers::write_word(words, at, width, offset, value)
         }
         STATION_1 | TABLE_1 | TABLE_3 => { registers::write_word(words, at, width, offset, value) }

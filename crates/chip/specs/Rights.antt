@@ -11,7 +11,8 @@ use Rattle.rules.specs.WellFormed.{FormedAt}
 use Rattle.rules.specs.Registers.{Access, access}
 use Rattle.rules.specs.Receive.{Frame, arrive}
 use Rattle.rules.specs.Send.{Send, finish}
-use Rattle.rules.specs.Step.{Input, driver, frame, sent, lent, serve, step}
+use Rattle.rules.specs.Link.{plug}
+use Rattle.rules.specs.Step.{Input, driver, frame, sent, link, lent, serve, step}
 use Rattle.lists.specs.Facts.{Decides}
 use Rattle.wellformed.specs.Fit.{Fits, step-fit}
 use Rattle.wellformed.specs.Keeps.{keeps, powered-fits}
@@ -45,7 +46,7 @@ module _ {l : Layout} (w s q mem : List ℕ) (o : InOrderOf l w s q mem) where
         };
       }
 
-  -- Accesses and frames leave the output buffer, which they are not lent.
+  -- Accesses, frames and link events leave the output buffer, which they are not lent.
   pub right-access : (i : Access) (a : Answer) (w′ s′ q′ mem′ : List ℕ) → MakesOf l (access i (viewOf l w s q mem)) a w′ s′ q′ mem′ → RightOf l (step (driver i) (viewOf l w s q mem)) a w′ s′ q′ mem′ []
   unfolding serve
   right-access i a w′ s′ q′ mem′ p = right (driver i) a w′ s′ q′ mem′ [] p refl
@@ -53,6 +54,10 @@ module _ {l : Layout} (w s q mem : List ℕ) (o : InOrderOf l w s q mem) where
   pub right-frame : (f : Frame) (a : Answer) (w′ s′ q′ mem′ : List ℕ) → MakesOf l (arrive f (viewOf l w s q mem)) a w′ s′ q′ mem′ → RightOf l (step (frame f) (viewOf l w s q mem)) a w′ s′ q′ mem′ []
   unfolding serve
   right-frame f a w′ s′ q′ mem′ p = right (frame f) a w′ s′ q′ mem′ [] p refl
+
+  pub right-link : (x : ℕ) (a : Answer) (w′ s′ q′ mem′ : List ℕ) → MakesOf l (plug x (viewOf l w s q mem)) a w′ s′ q′ mem′ → RightOf l (step (link x) (viewOf l w s q mem)) a w′ s′ q′ mem′ []
+  unfolding serve
+  right-link x a w′ s′ q′ mem′ p = right (link x) a w′ s′ q′ mem′ [] p refl
 
   -- A send leaves the output that its turn has, of the buffer that it lends.
   pub right-send : (x : Send) (out : List ℕ) (a : Answer) (w′ s′ q′ mem′ out′ : List ℕ) → MakesOf l (effectOf (finish x (viewOf l w s q mem) out)) a w′ s′ q′ mem′

@@ -1,8 +1,9 @@
-// The chip: every access, arriving frame and finished send. Each has two doors: a public entry for any record and memory, by value, which refuses with 16
+// The chip: every access, arriving frame, finished send and link event. Each has two doors: a public entry for any record and memory, by value, which refuses with 16
 // what is not in order; and the same step below it, over a state that its caller lends and keeps in order.
 mod driver; // driver.rt: accesses of the driver to the sixteen I/O addresses
 mod frames; // frames.rt: arriving frames
 mod sends; // sends.rt: finished sends
+mod links; // links.rt: link events
 mod entries; // entries.rt: power-up, and the interrupt line
 mod order; // order.rt: is a record in order, refusal 16
 
@@ -14,5 +15,7 @@ pub use entries::line;
 pub use entries::power_up;
 pub use frames::arrived;
 pub use frames::frame;
+pub use links::link;
+pub use links::linked;
 pub use sends::finished;
 pub use sends::send;

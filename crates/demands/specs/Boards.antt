@@ -53,7 +53,7 @@ module _ (l : Layout) where
   abbrev pub Good : Board → Type 0
   Good b = InOrderOf l (b .words) (b .pages) (b .queues) (b .memory)
 
-  -- `access`, `frame` and `send` of `chip` and of `strip_chip` promise this of their input i, and ask nothing: on the board b they leave x
+  -- `access`, `frame`, `send` and `link` of `chip` and of `strip_chip` promise this of their input i, and ask nothing: on the board b they leave x
   abbrev pub Serves : Input → Board → Left → Type 0
   Serves i b x = AnswersOf l i (b .words) (b .pages) (b .queues) (b .memory) (x .answer) (x .board .words) (x .board .pages) (x .board .queues) (x .board .memory) (x .output)
 

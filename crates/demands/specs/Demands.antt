@@ -1,6 +1,6 @@
--- The client's three demands, and what document 02's W3 promises of strips and W4 of the frame check sequence, a record for each, of the rules and of the code; each is proved by citing what leads to it.
+-- The client's three demands, and what document 02's W3 promises of strips, W4 of the frame check sequence and W8 of the link, a record for each, of the rules and of the code; each is proved by citing what leads to it.
 -- Of the rules: `step` and `run` (rules/specs/Step) on any chip; `powered l 24` is power-up, and `powerUp` that of document 01's chip, whose layout l is `paged`. Of the code: `Serves l i b x`, what the public
--- entries `access`, `frame` and `send` promise of the input i on any board b (registers, page sets or counts and queues by value, and the memory lent), `chip`'s with l = `paged` and `strip_chip`'s with l = `strips`;
+-- entries `access`, `frame`, `send` and `link` promise of the input i on any board b (registers, page sets or counts and queues by value, and the memory lent), `chip`'s with l = `paged` and `strip_chip`'s with l = `strips`;
 -- `Runs l` of inputs one after another; `chipOf l b` is the chip that a board stands for, `replyTo x` document 01's number and value.
 use mathlib.Core.Path.{_≡_, refl}
 use mathlib.Core.Bool.{Bool, true, false}
@@ -14,7 +14,7 @@ use Rattle.rules.specs.Interrupts.{lineUp}
 use Rattle.rules.specs.Registers.{Access}
 use Rattle.rules.specs.Receive.{Frame, badCrc}
 use Rattle.rules.specs.Send.{Send}
-use Rattle.rules.specs.Step.{Input, driver, frame, sent, lent, step, run}
+use Rattle.rules.specs.Step.{Input, driver, frame, sent, link, lent, step, run}
 use Rattle.lists.specs.Each.{Each}
 use Rattle.laws.specs.Sendable.{Reaches, ByCount, Before, told-by-count, told-before}
 use Rattle.laws.specs.Refusals.{refusals, Unchanged, Valued, numbers-given, refusal-leaves, refusal-value, sixteen-where, sixteen-there, never-seventeen}
@@ -22,6 +22,9 @@ use Rattle.laws.specs.Accounted.{IsFree, InOne}
 use Rattle.laws.specs.Ledger.{Ledger, Resets, blank, ledgerFrom}
 use Rattle.laws.specs.Reading.{Balances}
 use Rattle.laws.specs.Fcs.{bytesOut, AppendsFcs, OneByteApart, step-sends-good, one-byte-changed-is-found}
+use Rattle.laws.specs.Head.{headPages}
+use Rattle.laws.specs.LinkApart.{ByLink, butStatus, TurnsApart, LinkApart, SameAnswers, linkFirst, linkLast}
+use Rattle.laws.specs.LinkPlaces.{link-apart, link-and-frame, link-and-send, link-and-refused-send}
 use Rattle.laws.specs.Loads.{Loads}
 use Rattle.laws.specs.Merge.{Merge, Alike, any-two}
 use Rattle.laws.specs.Written.{unwritten, OnlyWritten}
@@ -30,11 +33,12 @@ use Rattle.laws.specs.Theorems.{Whole, power-up-whole, step-whole, pages-accoun
 use Rattle.demands.specs.Boards.{Board, Left, replyTo, boardAfter, chipOf, ReadyBy, Good, Serves, Starts, Shows, Runs, AsRules, serves-right, serves-once}
 use Rattle.demands.specs.OfCode.{serves-numbers, serves-leaves, serves-values, serves-sixteen, serves-no17, serves-earlier, serves-counts, serves-pages, starts-up, BalancesOn, runs-balanced, runs-balanced-since, serves-good-crc, AlikeOn, any-two-on}
 use Rattle.demands.specs.BesideCode.{BesideOn, runs-beside}
+use Rattle.demands.specs.LinkOfCode.{AnsweredAlike, turnOf, serves-apart, frame-places, send-places}
 
 -- Demand 1. "Every access, arriving frame and send gets an answer, whatever numbers and bytes come in. What the sheet forbids or the model lacks is refused by a number of document 01; a refusal changes no
 -- register, no packet byte and nothing in the output buffer." (`step` is a function on every input and chip, and the public entries ask nothing of what they are given: each call has a result.)
 pub record Demand1 : Type 0 where
-  -- the number is 0, 16 or one of the papers' for that kind of input: a read never 3, 4 or 6, an access never 11 to 15, 18 or 19, a frame only 11, a send only 11 to 15, 18 and 19
+  -- the number is 0, 16 or one of the papers' for that kind of input: a read never 3, 4 or 6, an access never 11 to 15, 18 or 19, a frame and a link event only 11, a send only 11 to 15, 18 and 19
   pub numbers : (i : Input) (c : Chip) → member (step i c .reply .number) (0 ∷ 16 ∷ refusals i) ≡ true
   -- a number other than 0 comes with the chip and the output buffer as they were, with no exception
   pub leaves : (i : Input) (c : Chip) → (step i c .reply .number ≡ 0 → ⊥) → Unchanged c (lent i) (step i c)
@@ -106,6 +110,22 @@ pub record FrameCheck : Type 0 where
   -- Of the code, on both chips: the first bytes of the buffer, as many as the answer's value says.
   pub codeSentGood : (l : Layout) (s : Send) (out : List ℕ) (b : Board) (x : Left) → Serves l (sent s out) b x → replyTo x .number ≡ 0 → AppendsFcs (chipOf l b) → badCrc (take (replyTo x .value) (x .output)) ≡ false
 
+-- Document 02, W8. "Frames arrive and sends finish as before, whatever the link."
+pub record WhateverLink : Type 0 where
+  -- any input to two chips that differ at most in link and change seen: the numbers agree, the values but for bit 14 of an EPHSR read and bit 5 of an interrupt status read, and what a send puts out; afterwards the
+  -- chips differ at most in link and change seen and, after a send that is done, in bit 14 of the status word that it wrote
+  pub apart : (i : Input) (c d : Chip) → ByLink c d → LinkApart 24 i c d
+  -- a link event and a frame change places: the same answers, the same chip; a link event and a send do but for that bit, and wholly where the send is refused
+  pub framePlaces : (x : ℕ) (f : Frame) (c : Chip) → SameAnswers 24 x (frame f) c × (linkFirst 24 x (frame f) c ≡ linkLast 24 x (frame f) c)
+  pub sendPlaces : (x : ℕ) (s : Send) (out : List ℕ) (c : Chip) → SameAnswers 24 x (sent s out) c × (butStatus (headPages c) (linkFirst 24 x (sent s out) c) ≡ butStatus (headPages c) (linkLast 24 x (sent s out) c))
+  pub refusedPlaces : (x : ℕ) (s : Send) (out : List ℕ) (c : Chip) → (step (sent s out) c .reply .number ≡ 0 → ⊥) → linkFirst 24 x (sent s out) c ≡ linkLast 24 x (sent s out) c
+  -- Of the code, on both chips: of two boards in order; and of any board, where u and v are left with the link event first, y and z with it last.
+  pub codeApart : (l : Layout) (i : Input) (b d : Board) (x y : Left) → Good l b → Good l d → ByLink (chipOf l b) (chipOf l d) → Serves l i b x → Serves l i d y → TurnsApart i (chipOf l b) (turnOf l x) (turnOf l y)
+  pub codeFramePlaces : (l : Layout) (x : ℕ) (f : Frame) (b : Board) (u v y z : Left) → Serves l (link x) b u → Serves l (frame f) (u .board) v → Serves l (frame f) b y → Serves l (link x) (y .board) z
+      → AnsweredAlike u v y z × (v .board ≡ z .board)
+  pub codeSendPlaces : (l : Layout) (x : ℕ) (s : Send) (out : List ℕ) (b : Board) (u v y z : Left) → Serves l (link x) b u → Serves l (sent s out) (u .board) v → Serves l (sent s out) b y → Serves l (link x) (y .board) z
+      → AnsweredAlike u v y z × (butStatus (headPages (chipOf l b)) (chipOf l (v .board)) ≡ butStatus (headPages (chipOf l b)) (chipOf l (z .board)))
+
 pub demand1 : Demand1
 demand1 = record {
   numbers = numbers-given 24;
@@ -148,3 +168,14 @@ beside-pages = record { beside = strips-beside; codeBeside = runs-beside }
 
 pub frame-check : FrameCheck
 frame-check = record { sentGood = λ s out c. step-sends-good 24 s c out; changedFound = one-byte-changed-is-found; codeSentGood = serves-good-crc }
+
+pub whatever-link : WhateverLink
+whatever-link = record {
+  apart = link-apart 24;
+  framePlaces = link-and-frame 24;
+  sendPlaces = link-and-send 24;
+  refusedPlaces = link-and-refused-send 24;
+  codeApart = serves-apart;
+  codeFramePlaces = frame-places;
+  codeSendPlaces = send-places;
+}

@@ -22,7 +22,7 @@ handed r p q mem = record { words = r .words; pages = p .sets; queues = q .slots
 abbrev pub left : Returned → List ℕ → List ℕ → Left
 left x mem out = record { answer = x .answer; board = handed (x .registers) (x .pages) (x .queues) mem; output = out }
 
--- `chip::access`, `frame` and `send`; `power_up`; `line`
+-- `chip::access`, `frame`, `send` and `link`; `power_up`; `line`
 pub chip-serves : (i : Input) (r : Registers) (p : Pages) (q : Queues) (mem : List ℕ) (x : Returned) (mem′ out′ : List ℕ) → Answers i r p q mem x mem′ out′ → Serves paged i (handed r p q mem) (left x mem′ out′)
 chip-serves i r p q mem x mem′ out′ a = a
 

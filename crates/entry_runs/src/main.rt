@@ -1,6 +1,6 @@
 // Runs the chip's public entries on records from outside, damaged ones too. Standard input, up to 65,536 bytes, is cases of 240 bytes:
 // 32 words of registers, 24 page sets and 72 bytes of queues, each number with its lowest byte first, then a record of document 01,
-// of kinds 1 to 4, 6 or 7. Bytes 2 and 3 of kind 6 are the frame's length; byte 4 of kind 7 says how many the output buffer lacks.
+// of kinds 1 to 4 or 6 to 8. Bytes 2 and 3 of kind 6 are the frame's length; byte 4 of kind 7 says how many the output buffer lacks.
 // All cases have one memory and one wire, zeros at first: a send puts out to the wire, and a frame comes from it. Each case has a line,
 // in as many decimal digits as any other, so that all lines cost the same: the answer's number, its value, and a sum of the record given back.
 use chip::Request;
@@ -153,7 +153,7 @@ fn sent(
     )
 }
 
-// Each entry is called at two places, so that the compiler calls it and does not have it in the loop, as a caller elsewhere would. A record of any other kind calls
+// Each entry but `link` is called at two places, so that the compiler calls it and does not have it in the loop, as a caller elsewhere would. A record of any other kind calls
 // none, and the chip is given back as it came.
 fn served(
     registers: Registers,
@@ -170,6 +170,7 @@ fn served(
         3 | 4 => chip::access(registers, pages, queues, memory, write_of(asked)),
         6 => arrived(registers, pages, queues, memory, wire, asked),
         7 => sent(registers, pages, queues, memory, wire, asked),
+        8 => chip::link(registers, pages, queues, memory, asked[1]),
         _ => Returned {
             answer: Answer::CutShort,
             registers,

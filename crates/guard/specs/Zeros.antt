@@ -28,10 +28,10 @@ alone : (a : ℕ) → None a (a ≡ 0)
 alone a = record { sound = λ e. e; complete = λ e. e }
 
 -- The words that hold nothing, as the code joins them.
-pub blank-none : (w : List ℕ) → None (bitOr (bitOr (bitOr (bitOr (word w 15) (word w 16)) (word w 18)) (word w 20)) (word w 21)) (BlankIn w)
+pub blank-none : (w : List ℕ) → None (bitOr (bitOr (bitOr (word w 16) (word w 18)) (word w 20)) (word w 21)) (BlankIn w)
 blank-none w =
-    let n = alone (word w 15) joined word w 16 joined word w 18 joined word w 20 joined word w 21 in
+    let n = alone (word w 16) joined word w 18 joined word w 20 joined word w 21 in
     record {
-      sound = λ z. let b = n .sound z in record { none15 = b .0 .0 .0 .0; none16 = b .0 .0 .0 .1; none18 = b .0 .0 .1; none20 = b .0 .1; none21 = b .1 };
-      complete = λ b. n .complete ((((b .none15, b .none16), b .none18), b .none20), b .none21);
+      sound = λ z. let b = n .sound z in record { none16 = b .0 .0 .0; none18 = b .0 .0 .1; none20 = b .0 .1; none21 = b .1 };
+      complete = λ b. n .complete (((b .none16, b .none18), b .none20), b .none21);
     }

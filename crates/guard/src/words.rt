@@ -2,6 +2,7 @@
 use state::BANK;
 use state::INTERRUPT;
 use state::LATCHES;
+use state::LINK;
 use state::PACKET;
 use state::RESERVED;
 ghost use mathlib.Core.Path.{_≡_};
@@ -36,8 +37,8 @@ fn latches_good(x: u16) -> bool
     }
 }
 
-fn fixed_good(bank: u16, reserved: u16, latches: u16, mask: u16) -> bool
-    ensures { λ b. ⌜ Decides b (Fixed bank reserved latches mask) ⌝ }
+fn fixed_good(bank: u16, reserved: u16, latches: u16, link: u16, mask: u16) -> bool
+    ensures { λ b. ⌜ Decides b (Fixed bank reserved latches link mask) ⌝ }
 {
     if bank / 8 != 0x660 {
         return false;
@@ -48,6 +49,10 @@ fn fixed_good(bank: u16, reserved: u16, latches: u16, mask: u16) -> bool
     if mask % 256 != 0 {
         return false;
     }
+    // no bit but the link and its change
+    if 4 <= link {
+        return false;
+    }
     latches_good(latches)
 }
 
@@ -56,7 +61,7 @@ fn blanks_good(words: &[u16]) -> bool
     requires { ⌜ length (now words) ≡ 32 ⌝ }
     ensures { λ b. ⌜ Decides b (BlankIn (now (words .entry))) ⌝ }
 {
-    (words[15] | words[16] | words[18] | words[20] | words[21]) == 0
+    (words[16] | words[18] | words[20] | words[21]) == 0
 }
 
 // An allocation that waits is for 1 to 8 pages, more than are free, with the result at 80h.
@@ -83,6 +88,7 @@ pub fn words_good(words: &[u16]) -> bool
         words[BANK],
         words[RESERVED],
         words[LATCHES],
+        words[LINK],
         words[INTERRUPT],
     ) {
         return false;

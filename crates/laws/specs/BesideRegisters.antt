@@ -2,6 +2,7 @@
 use mathlib.Core.Path.{refl, ap, subst}
 use mathlib.Core.List.{List, []}
 use Prim.Native.Nat.{ℕ}
+use lib.Dec.{ltb}
 use lib.ListN.{replicate}
 use Rattle.rules.specs.Bits.{bit, lowByte}
 use Rattle.rules.specs.Chip.{Layout, Chip, size, resetRegisters, emptyPool}
@@ -9,6 +10,7 @@ use Rattle.rules.specs.Fields.{setRcr}
 use Rattle.rules.specs.Answers.{Effect}
 use Rattle.rules.specs.Mmu.{decode}
 use Rattle.rules.specs.Interrupts.{status}
+use Rattle.rules.specs.Link.{plug}
 use Rattle.rules.specs.Data.{address, writeData}
 use Rattle.rules.specs.Registers.{Lanes, low, high, both, Register, TCR, EPHSR, RCR, ECR, MIR, RESERVED, STATION, CONTROL, COMMAND, PACKET, HEADS, POINTER, DATA, INTERRUPT, TABLE, BANK, UNUSED, ABSENT, width, bytesOf, newRcr, writeRcr, writeInterrupt, lowOnly, readRegister, writeRegister, registerAt, misplaced, lanesAt, Access, read, write, access}
 use Rattle.rules.specs.Step.{driver}
@@ -58,7 +60,7 @@ module _ {n : ℕ} {l : Layout} {m : Marks} {c : Chip} {ls : List (List ℕ)} {b
       (λ e. record {
         lists = replicate (size c) [];
         bytes = bytes;
-        is = ap (λ (k : ℕ). record { regs = setRcr 0x8000 (resetRegisters (c .regs .receiving .station)); pool = emptyPool l k; memory = bytes }) (as-many-packets (both-good b));
+        is = ap (λ (k : ℕ). record { regs = setRcr 0x8000 (resetRegisters (c .regs .receiving .station) (c .regs .link .up)); pool = emptyPool l k; memory = bytes }) (as-many-packets (both-good b));
         packets = emptied-in-both (b .packets) (size c);
       })
       (λ e. stays _ (b .packets))
@@ -105,3 +107,8 @@ module _ {n : ℕ} {l : Layout} {m : Marks} {c : Chip} {ls : List (List ℕ)} {b
       pick-both (Effects l (dataRead (driver (read w o)) c) c m m) (misplaced w o) (misplaced w o) refl (λ e. as-is b (b .packets)) (λ e. same-read (registerAt (c .regs .numbers .bank) o) (lanesAt w o))
   same-access (write w o v) =
       pick-both (Effects l 0 c m _) (misplaced w o) (misplaced w o) refl (λ e. as-is b (b .packets)) (λ e. same-write (registerAt (c .regs .numbers .bank) o) (lanesAt w o) v)
+
+  -- The link is set on both.
+  pub same-plug : (x : ℕ) → Effects l 0 c m m (plug x c) (plug x other)
+  unfolding plug
+  same-plug x = pick-both (Effects l 0 c m m) (ltb 1 x) (ltb 1 x) refl (λ e. as-is b (b .packets)) (λ e. as-is b (b .packets))

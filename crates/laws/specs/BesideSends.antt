@@ -14,7 +14,7 @@ use Rattle.rules.specs.Fields.{setTx, inRegisters, inPool}
 use Rattle.rules.specs.Answers.{Reply, Turn, over}
 use Rattle.rules.specs.Packet.{getBytes, putBytes}
 use Rattle.rules.specs.Mmu.{due, freed}
-use Rattle.rules.specs.Send.{Send, inLimits, byteCount, sendLength, controlByte, putOut, good, newEphsr, sentRegisters, autoRelease, retire, statusWritten, sendHead, noPlace, ifUsable, ifSendable, byTxHead, finish}
+use Rattle.rules.specs.Send.{Send, inLimits, byteCount, sendLength, controlByte, putOut, good, sentRegisters, autoRelease, retire, statusWord, statusWritten, sendHead, noPlace, ifUsable, ifSendable, byTxHead, finish}
 use Rattle.lists.specs.Facts.{member-first, head-and-rest}
 use Rattle.wellformed.specs.Cases.{pick}
 use Rattle.laws.specs.Head.{byteAt, headCount, headControl, countAt, count-is}
@@ -34,7 +34,7 @@ sentWith s k rest c out bytes address =
       reply = record { number = 0; value = length bytes };
       chip =
           retire (autoRelease isGood (c .regs)) k
-          (statusWritten (pagesAt c k) (newEphsr isGood s address (c .regs))
+          (statusWritten (pagesAt c k) (statusWord isGood s address (c .regs))
           (inPool (setTx rest) (inRegisters (sentRegisters isGood s address (not (some? rest))) c)));
       output = over bytes out;
     }
@@ -76,7 +76,7 @@ module _ {n : ℕ} {l : Layout} {m : Marks} {c : Chip} {ls : List (List ℕ)} {b
   -- The head of TX is sent on both, with the same bytes put out and the same address.
   module _ (k : ℕ) (is-head : k ≡ getD (c .pool .tx) 0 0) (a : allocated k c ≡ true) (room : 2 ≤ 256 * length (pagesAt c k)) (rest x address : List ℕ) where
     abbrev word : ℕ
-    word = newEphsr (good (c .regs .sending .tcr) (s .outcome)) s address (c .regs)
+    word = statusWord (good (c .regs .sending .tcr) (s .outcome)) s address (c .regs)
 
     abbrev noted : Chip
     noted = statusWritten (pagesAt c k) word (inPool (setTx rest) (inRegisters (sentRegisters (good (c .regs .sending .tcr) (s .outcome)) s address (not (some? rest))) c))

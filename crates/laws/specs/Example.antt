@@ -76,7 +76,7 @@ watched-example = refl
 
 -- TX EMPTY is set at power-up: a mask of 04h raises the line, a record of unknown kind leaves it up, and a tail of five bytes where it is.
 pub line-follows :
-    watch (record8 (0x03 ∷ 0x0e ∷ 0x02 ∷ []) ++ record8 (0x03 ∷ 0x0d ∷ 0x04 ∷ []) ++ record8 (0x08 ∷ []) ++ (0x03 ∷ 0x0d ∷ 0x00 ∷ 0x00 ∷ 0x00 ∷ []))
+    watch (record8 (0x03 ∷ 0x0e ∷ 0x02 ∷ []) ++ record8 (0x03 ∷ 0x0d ∷ 0x04 ∷ []) ++ record8 (0xff ∷ []) ++ (0x03 ∷ 0x0d ∷ 0x00 ∷ 0x00 ∷ 0x00 ∷ []))
     ≡ shows 1 0 0x0000 false ++ shows 2 0 0x0000 true ++ shows 3 17 0x0000 true ++ shows 4 17 0x0000 true
 unfolding bit flag share lowByte highByte wordOf member some? owned unless freeBelow firstEmpty above ascends allBelow apart noneOwned pagesGood laidGood queueGood queuesGood numbersGood requestGood formed fit decode perform failed eph status lineUp registerAt misplaced lanesAt taken merged headOf lowOnly readRegister writeRegister access serve stepOf eventOf writeInterrupt answer decimalIn hexDigit hex4 line printed isSend hexBytes putOut watchLine
 line-follows = refl

@@ -12,8 +12,8 @@ use Rattle.rules.specs.Data.{readData, writeData}
 use Rattle.rules.specs.Registers.{Lanes, low, high, both, Register, TCR, EPHSR, RCR, ECR, MIR, RESERVED, STATION, CONTROL, COMMAND, PACKET, HEADS, POINTER, DATA, INTERRUPT, TABLE, BANK, UNUSED, ABSENT, bytesOf, newRcr, writeRcr, writeInterrupt, writeRegister, registerAt, misplaced, lanesAt, Access, read, write, access}
 use Rattle.rules.specs.Receive.{Frame, Arrival, stored, disabled, notAccepted, tooLong, bad, noRoom, after, verdict, arrive}
 use Rattle.rules.specs.Send.{Send, good, autoRelease, sendHead, finish}
-use Rattle.rules.specs.Step.{Input, driver, frame, sent, serve, stepOf}
-use Rattle.wellformed.specs.Cases.{pick, by-settle, by-head, by-idle, by-packet, by-tests, by-lanes, by-read, by-send, by-step}
+use Rattle.rules.specs.Step.{Input, driver, frame, sent, link, serve, stepOf}
+use Rattle.wellformed.specs.Cases.{pick, by-settle, by-head, by-idle, by-packet, by-tests, by-lanes, by-read, by-plug, by-send, by-step}
 
 module _ (c : Chip) where
   -- the layout is that of c
@@ -103,6 +103,7 @@ module _ (c : Chip) where
   serves (driver a) = accesses a
   serves (frame f) = arrives f
   serves (sent s out) = by-send c out LaidBy s refl refl refl (λ k rest e. refl) (λ k rest e. refl) (λ k rest e. refl) refl (λ k rest e f. sends-head s k rest out)
+  serves (link x) = by-plug c LaidIn x refl (λ up. refl)
 
 pub layout-stays : (n : ℕ) (i : Input) (c : Chip) → stepOf n i c .chip .pool .layout ≡ c .pool .layout
 layout-stays n i c = by-step c (LaidBy c) n i refl (serves c i)

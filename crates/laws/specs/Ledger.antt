@@ -13,7 +13,7 @@ use Rattle.rules.specs.Mmu.{Command, nothing, allocate, reset, removeRx, remove
 use Rattle.rules.specs.Registers.{Register, TCR, EPHSR, RCR, ECR, MIR, RESERVED, STATION, CONTROL, COMMAND, PACKET, HEADS, POINTER, DATA, INTERRUPT, TABLE, BANK, UNUSED, ABSENT, headOf, registerAt, read, write}
 use Rattle.rules.specs.Receive.{needed}
 use Rattle.rules.specs.Send.{good, autoRelease}
-use Rattle.rules.specs.Step.{Input, driver, frame, sent, stepOf}
+use Rattle.rules.specs.Step.{Input, driver, frame, sent, link, stepOf}
 
 -- what happens to the ledger
 pub data Entry : Type 0 where
@@ -85,6 +85,7 @@ inputEntries (driver (read w o)) c v d = []
 inputEntries (driver (write w o x)) c v d = writeEntries (registerAt (c .regs .numbers .bank) o) x c d
 inputEntries (frame f) c v d = cond (eqb v 0) (just (grants (lastOf (d .pool .rx)) (needed (c .regs) (length (f .bytes))))) []
 inputEntries (sent s out) c v d = cond (autoRelease (good (c .regs .sending .tcr) (s .outcome)) (c .regs)) (returns (headOf (c .pool .tx)) ∷ answered c d) []
+inputEntries (link x) c v d = []
 
 -- A refusal leaves the ledger.
 unfoldable pub entriesOf : Input → Chip → Turn → List Entry

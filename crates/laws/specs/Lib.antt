@@ -25,6 +25,14 @@ pub mod Theorems
 pub mod Restarts
 -- An allocation that waits: granted in the very step that leaves enough pages free, never waiting in vain, and ended by nothing but a grant, a new request or a reset.
 pub mod Waiting
+-- The link: the two values that show it, who changes it, and that loading, frames and sends are as before, whatever it is.
+pub mod LinkApart
+pub mod LinkReads
+pub mod LinkSteps
+pub mod LinkSends
+pub mod LinkKept
+pub mod LinkShown
+pub mod LinkPlaces
 -- Demand 3: loading and reception do not disturb each other.
 pub mod Apart
 pub mod Reception

@@ -57,7 +57,7 @@ unfolding bit flag
 bit-first true r = let e : (1 + 2 * r) % 2 ≡ 1 = omega arith in rw (div-one (1 + 2 * r)) (eq-eqb ((1 + 2 * r) % 2) 1 e)
 bit-first false r = let e : (0 + 2 * r) % 2 ≡ 0 = omega arith in rw (div-one (0 + 2 * r), e)
 
-flag-small : (b : Bool) → flag b < 2
+pub flag-small : (b : Bool) → flag b < 2
 unfolding flag
 flag-small true = omega arith
 flag-small false = omega arith
@@ -103,16 +103,18 @@ status-bits c =
     let at : (k : ℕ) → bit k (status c) ≡ getD bits k false = λ k. ap (bit k) e ∙ bit-of k bits in
     record { received = at 0; completed = at 1; txEmpty = at 2; allocation = at 3; overrun = at 4; handler = at 5; six = at 6; seven = at 7 }
 
--- "EPH is (EPHSR bit 12 and control bit 6) or (any of EPHSR 15, 10, 9, 5, 4 while bit 0 is clear, and control bit 5)."
+-- "EPH is (EPHSR bit 12 and control bit 6) or (any of EPHSR 15, 10, 9, 5, 4 while bit 0 is clear, and control bit 5)."; or a change of the link, "while control bit 7 is set" (document 02, W8)
 abbrev pub AnyFailure : ℕ → Type 0
 AnyFailure e = ((((bit 15 e ≡ true) ⊎ (bit 10 e ≡ true)) ⊎ (bit 9 e ≡ true)) ⊎ (bit 5 e ≡ true)) ⊎ (bit 4 e ≡ true)
 
-abbrev pub Eph : ℕ → ℕ → Type 0
-Eph e control = ((bit 12 e ≡ true) × (bit 6 control ≡ true)) ⊎ ((AnyFailure e × (bit 0 e ≡ false)) × (bit 5 control ≡ true))
+abbrev pub Eph : ℕ → ℕ → Bool → Type 0
+Eph e control changed =
+    (((bit 12 e ≡ true) × (bit 6 control ≡ true)) ⊎ ((AnyFailure e × (bit 0 e ≡ false)) × (bit 5 control ≡ true))) ⊎ ((changed ≡ true) × (bit 7 control ≡ true))
 
-pub eph-exactly : (r : Registers) → Decides (eph r) (Eph (r .sending .ephsr) (r .control))
+pub eph-exactly : (r : Registers) → Decides (eph r) (Eph (r .sending .ephsr) (r .control) (r .link .changed))
 unfolding eph failed
 eph-exactly r =
     let e = r .sending .ephsr in
     let set : (k : ℕ) → Decides (bit k e) (bit k e ≡ true) = λ k. is-true (bit k e) in
     (set 12 and is-true (bit 6 (r .control))) or (((set 15 or set 10 or set 9 or set 5 or set 4) and is-false (bit 0 e)) and is-true (bit 5 (r .control)))
+    or (is-true (r .link .changed) and is-true (bit 7 (r .control)))

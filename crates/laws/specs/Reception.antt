@@ -95,7 +95,7 @@ frame-is f c = early (ltb (length (f .bytes)) 18) _ (judged (judge (c .regs) (le
 
 -- what a frame reads of the registers, and all else as after a reset
 abbrev pub seen : Registers → Registers
-seen r = setOverrun false (setControl (r .control) (inReceiving (λ x. r .receiving) (resetRegisters [])))
+seen r = setOverrun false (setControl (r .control) (inReceiving (λ x. r .receiving) (resetRegisters [] false)))
 
 -- A frame reads RCR, the reserved pages, the station address, control and the table, and the pool.
 pub frame-reads : (f : Frame) (r : Registers) (q : Pool) → reception f r q ≡ reception f (seen r) q

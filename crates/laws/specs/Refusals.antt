@@ -13,11 +13,12 @@ use Rattle.rules.specs.Answers.{Reply, Effect, Turn, refusalWith, refuse, refus
 use Rattle.rules.specs.Mmu.{Command, nothing, allocate, reset, removeRx, removeAndRelease, release, enqueue, resetTx, unknown, decode, perform}
 use Rattle.rules.specs.Data.{readData, writeData}
 use Rattle.rules.specs.Registers.{Lanes, Register, TCR, EPHSR, RCR, ECR, MIR, RESERVED, STATION, CONTROL, COMMAND, PACKET, HEADS, POINTER, DATA, INTERRUPT, TABLE, BANK, UNUSED, ABSENT, bytesOf, lowOnly, readRegister, writeRegister, Width, read, write, misplaced, registerAt, lanesAt, access}
+use Rattle.rules.specs.Link.{plug}
 use Rattle.rules.specs.Receive.{Frame, arrive}
 use Rattle.rules.specs.Send.{Send, byteCount, sendHead, finish}
-use Rattle.rules.specs.Step.{Input, driver, frame, sent, lent, serve, stepOf}
+use Rattle.rules.specs.Step.{Input, driver, frame, sent, link, lent, serve, stepOf}
 use Rattle.lists.specs.Facts.{or-true}
-use Rattle.wellformed.specs.Cases.{pick, by-head, by-idle, by-packet, by-tests, by-lanes, by-read, by-send, by-step}
+use Rattle.wellformed.specs.Cases.{pick, by-head, by-idle, by-packet, by-tests, by-lanes, by-read, by-plug, by-send, by-step}
 use Rattle.wellformed.specs.Fit.{Fits, step-fit, step-unfit}
 use Rattle.laws.specs.Head.{headCount, count-is}
 
@@ -35,6 +36,7 @@ refusals (driver (read w o)) = readRefusals
 refusals (driver (write w o v)) = writeRefusals
 refusals (frame f) = 11 ∷ []
 refusals (sent s out) = 11 ∷ 12 ∷ 13 ∷ 14 ∷ 15 ∷ 18 ∷ 19 ∷ []
+refusals (link x) = 11 ∷ []
 
 -- "the offending count as the answer's value in all three": document 02's "13 odd, 18 under 12, 19 past the pages"
 abbrev pub countRefusals : List ℕ
@@ -142,6 +144,10 @@ module _ (c : Chip) where
       by-send c out (HonestTurn c out (refusals (sent s out))) s (refuses 15 refl) (refuses 11 refl) (refuses 12 refl)
       (tells s out 13 refl refl) (tells s out 18 refl refl) (tells s out 19 refl refl) (refuses 14 refl) (λ k rest e f. answers refl)
 
+  plugs : (x : ℕ) → HonestEffect c (refusals (link x)) (plug x c)
+  unfolding member
+  plugs x = by-plug c (HonestEffect c (refusals (link x))) x (refuses 11 refl) (λ up. answers refl)
+
   -- what an effect has, it has as a turn that is lent no output buffer
   leaves : {among : List ℕ} {s : Effect} → HonestEffect c among s → HonestTurn c [] among (leaving [] s)
   leaves (answers e) = answers e
@@ -153,6 +159,7 @@ module _ (c : Chip) where
   serves (driver (write w o v)) = leaves (write-access w o v)
   serves (frame f) = leaves (arrives f)
   serves (sent s out) = sends s out
+  serves (link x) = leaves (plugs x)
 
   or-sixteen : {out among : List ℕ} {t : Turn} → HonestTurn c out among t → HonestTurn c out (16 ∷ among) t
   unfolding member
@@ -207,6 +214,7 @@ sixteen-apart (driver (read w o)) = refl
 sixteen-apart (driver (write w o v)) = refl
 sixteen-apart (frame f) = refl
 sixteen-apart (sent s out) = refl
+sixteen-apart (link x) = refl
 
 seventeen-apart : (i : Input) → member 17 (0 ∷ 16 ∷ refusals i) ≡ false
 unfolding member
@@ -214,6 +222,7 @@ seventeen-apart (driver (read w o)) = refl
 seventeen-apart (driver (write w o v)) = refl
 seventeen-apart (frame f) = refl
 seventeen-apart (sent s out) = refl
+seventeen-apart (link x) = refl
 
 module _ (n : ℕ) (i : Input) (c : Chip) where
   -- 16 is given exactly where the memory has another length or the chip is not well formed; 17 never.

@@ -8,7 +8,7 @@ use Rattle.rules.specs.Chip.{Chip, pagesAt, allocated}
 use Rattle.rules.specs.Answers.{Reply}
 use Rattle.rules.specs.Data.{address}
 use Rattle.rules.specs.Registers.{Register, TCR, EPHSR, RCR, ECR, MIR, RESERVED, STATION, CONTROL, COMMAND, PACKET, HEADS, POINTER, DATA, INTERRUPT, TABLE, BANK, UNUSED, ABSENT, width, registerAt, lanesAt, read, write}
-use Rattle.rules.specs.Step.{Input, driver, frame, sent, stepOf}
+use Rattle.rules.specs.Step.{Input, driver, frame, sent, link, stepOf}
 use Rattle.laws.specs.Head.{byteAt}
 use Rattle.laws.specs.Written.{Marks, meant, written}
 
@@ -48,6 +48,7 @@ dataRead (driver (read w offset)) c = dataIn (registerAt (c .regs .numbers .bank
 dataRead (driver (write w offset v)) c = 0
 dataRead (frame f) c = 0
 dataRead (sent s out) c = 0
+dataRead (link x) c = 0
 
 -- is the j-th byte that a data read gives written
 abbrev pub WrittenAt : Chip → Marks → ℕ → Type 0

@@ -6,7 +6,7 @@ use Prim.Native.Nat.{ℕ, zero, suc, _*_}
 use native.Mathlib.Omega.{arith}
 use lib.ListN.{length, replicate}
 use Rattle.rules.specs.Chip.{Layout, paged, strips, Chip, pageNumbers, pagesAt, powered, powerUp, stripsUp}
-use Rattle.rules.specs.Step.{Input, driver, frame, sent, serve, stepOf, runOf, run}
+use Rattle.rules.specs.Step.{Input, driver, frame, sent, link, serve, stepOf, runOf, run}
 use Rattle.wellformed.specs.Fit.{Fits, step-fit}
 use Rattle.wellformed.specs.Keeps.{keeps, powered-fits}
 use Rattle.laws.specs.Head.{byteAt}
@@ -15,7 +15,7 @@ use Rattle.laws.specs.Strips.{Agree, dataRead, StepAlike, Alike}
 use Rattle.laws.specs.Placed.{Octets}
 use Rattle.laws.specs.SameCounts.{none-alike}
 use Rattle.laws.specs.Beside.{on, Follows, stays, Turns, Beside}
-use Rattle.laws.specs.BesideRegisters.{same-access}
+use Rattle.laws.specs.BesideRegisters.{same-access, same-plug}
 use Rattle.laws.specs.BesideFrames.{same-arrive}
 use Rattle.laws.specs.BesideSends.{same-finish}
 
@@ -36,6 +36,7 @@ module _ {n : ℕ} {l : Layout} {m : Marks} {c : Chip} {ls : List (List ℕ)} {b
   same-serve (driver a) h = let e = same-access b a in record { reply = e .reply; output = refl; chips = e .chips }
   same-serve (frame f) h = let e = same-arrive b f h in record { reply = e .reply; output = refl; chips = e .chips }
   same-serve (sent s out) h = same-finish b s out (λ r. rw (step-fit n (sent s out) c (b .fits)) at (h r))
+  same-serve (link x) h = let e = same-plug b x in record { reply = e .reply; output = refl; chips = e .chips }
 
   -- Every step.
   same-step : (i : Input) → Minds n i c m → Turns l (dataRead i c) c m (inputMarks i c m) (stepOf n i c) (stepOf n i (on l ls bytes c))

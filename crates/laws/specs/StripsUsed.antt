@@ -18,7 +18,7 @@ use Rattle.rules.specs.Registers.{Access, read, write, byte, word, registerAt, 
 use Rattle.rules.specs.Crc.{crcBit, crcBits, crcFrom, crc, hash, mirror, fcsWord, fourBytes}
 use Rattle.rules.specs.Receive.{sameBytes, badCrc, broadcast, group, inTable, accepted, dataLength, countOf, pagesFor, needed, valueFor, dropped, judge, groupBits, frameStatus, trailer, image, after, arrive}
 use Rattle.rules.specs.Send.{inLimits, byteCount, sendLength, appends, padded, ended, onWire, controlByte, putOut, good, failureBit, collisionBits, outcomeBits, addressBits, nibble, counted, tally, nibbles, anyAt15, newEcr, newEphsr, autoRelease, sendHead, ifUsable, ifSendable, finish}
-use Rattle.rules.specs.Step.{Input, driver, frame, sent, serve, stepOf, runOf, run}
+use Rattle.rules.specs.Step.{Input, driver, frame, sent, link, serve, stepOf, runOf, run}
 use Rattle.lists.specs.Facts.{_and_, is-true}
 use Rattle.wellformed.specs.Fit.{below-decides}
 use Rattle.laws.specs.Broadcast.{broadcasting}
@@ -60,12 +60,14 @@ unfoldable minded : Input → Chip → Marks → Bool
 minded (driver a) c m = true
 minded (frame f) c m = allBelow 256 (f .bytes)
 minded (sent s out) c m = readsMarked c m
+minded (link x) c m = true
 
 minded-sound : (n : ℕ) (i : Input) (c : Chip) (m : Marks) → minded i c m ≡ true → Minds n i c m
 unfolding minded
 minded-sound n (driver a) c m e = tt
 minded-sound n (frame f) c m e = below-decides 256 (f .bytes) .sound e
 minded-sound n (sent s out) c m e = λ r. reads-marked c m (stepOf n (sent s out) c) e
+minded-sound n (link x) c m e = tt
 
 unfoldable allMinded : ℕ → List Input → Chip → Marks → Bool
 allMinded n [] c m = true

@@ -18,10 +18,10 @@ use Rattle.rules.specs.Data.{readData, writeData}
 use Rattle.rules.specs.Registers.{Lanes, low, high, both, Register, TCR, EPHSR, RCR, ECR, MIR, RESERVED, STATION, CONTROL, COMMAND, PACKET, HEADS, POINTER, DATA, INTERRUPT, TABLE, BANK, UNUSED, ABSENT, bytesOf, merged, newRcr, writeRcr, writeTcr, writeInterrupt, readRegister, writeRegister, headOf, registerAt, misplaced, lanesAt, Access, read, write, access}
 use Rattle.rules.specs.Receive.{Frame, Arrival, stored, disabled, notAccepted, tooLong, bad, noRoom, valueFor, needed, after, verdict, arrive}
 use Rattle.rules.specs.Send.{Send, good, autoRelease, sendHead, finish}
-use Rattle.rules.specs.Step.{Input, driver, frame, sent, serve, stepOf}
+use Rattle.rules.specs.Step.{Input, driver, frame, sent, link, serve, stepOf}
 use Rattle.lists.specs.Facts.{member-first}
 use Rattle.wellformed.specs.Layouts.{GoodLists, unallocated, back-lists}
-use Rattle.wellformed.specs.Cases.{pick, pick-by, by-settle, by-head, by-idle, by-packet, by-tests, by-lanes, by-read, by-send, by-step}
+use Rattle.wellformed.specs.Cases.{pick, pick-by, by-settle, by-head, by-idle, by-packet, by-tests, by-lanes, by-read, by-plug, by-send, by-step}
 use Rattle.wellformed.specs.Pool.{has-small, good-lists}
 use Rattle.wellformed.specs.Fit.{Fits}
 use Rattle.wellformed.specs.Settle.{due-decides, not-due}
@@ -282,10 +282,11 @@ module _ (n : ℕ) (small : n ≤ 128) (c : Chip) (w : Fits n c) where
         by-send c out ToldSend s (not-done 14) (not-done 10) (not-done 11) (λ k rest e. not-done 12) (λ k rest e. not-done 17) (λ k rest e. not-done 18) (not-done 13) (λ k rest e f. told-head k rest e)
 
   told-serve : (i : Input) → Moves (heldBy c) (heldBy (serve i c .chip)) (entriesOf i c (serve i c))
-  unfolding serve entriesOf
+  unfolding serve entriesOf inputEntries
   told-serve (driver a) = told-access a
   told-serve (frame f) = told-arrive f
   told-serve (sent s out) = told-send s out
+  told-serve (link x) = by-plug c Left x (no still 10) (λ up. stays)
 
   -- The entries of a step tell what it does to what the ledger follows.
   pub told : (i : Input) → Moves (heldBy c) (heldBy (stepOf n i c .chip)) (entriesOf i c (stepOf n i c))

@@ -13,7 +13,7 @@ use Rattle.rules.specs.Data.{rcv, address}
 use Rattle.rules.specs.Registers.{Register, TCR, EPHSR, RCR, ECR, MIR, RESERVED, STATION, CONTROL, COMMAND, PACKET, HEADS, POINTER, DATA, INTERRUPT, TABLE, BANK, UNUSED, ABSENT, Lanes, width, headOf, registerAt, lanesAt, Access, read, write}
 use Rattle.rules.specs.Receive.{Frame, Arrival, stored, disabled, notAccepted, tooLong, bad, noRoom, dataLength, countOf, verdict}
 use Rattle.rules.specs.Send.{Send, sendLength, good, autoRelease}
-use Rattle.rules.specs.Step.{Input, driver, frame, sent, stepOf}
+use Rattle.rules.specs.Step.{Input, driver, frame, sent, link, stepOf}
 use Rattle.lists.specs.Each.{Each}
 use Rattle.laws.specs.Head.{headCount, headControl}
 use Rattle.laws.specs.Sendable.{Reaches}
@@ -98,6 +98,7 @@ unfoldable pub inputMarks : Input → Chip → Marks → Marks
 inputMarks (driver a) c m = accessMarks a c m
 inputMarks (frame f) c m = frameMarks (verdict f c) f c m
 inputMarks (sent s out) c m = sendMarks s c m
+inputMarks (link x) c m = m
 
 -- what is written after an input, of a chip with n packets: a refusal writes nothing
 unfoldable pub written : ℕ → Input → Chip → Marks → Marks
@@ -116,6 +117,7 @@ abbrev pub Minds : ℕ → Input → Chip → Marks → Type 0
 Minds n (driver a) c m = Unit {0}
 Minds n (frame f) c m = Each (λ b. b < 256) (f .bytes)
 Minds n (sent s out) c m = Reaches s c out → ReadsWritten c m (stepOf n (sent s out) c)
+Minds n (link x) c m = Unit {0}
 
 abbrev pub OnlyWritten : ℕ → List Input → Chip → Marks → Type 0
 OnlyWritten n [] c m = Unit {0}

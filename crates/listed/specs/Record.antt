@@ -73,6 +73,7 @@ registersOf r = record {
   pointer = r .pointer;
   control = r .control;
   mask = r .mask;
+  link = record { up = r .up; changed = r .changed };
 }
 
 abbrev pub poolOf : Registers → List (List Page) → Pool
@@ -118,6 +119,8 @@ module _ {r s : Registers} {m n : List (List Page)} {a b : List ℕ} (x : Ready 
         bank = of (λ c. c .regs .numbers .bank) i;
         txempty = of (λ c. c .regs .sending .txEmpty) i;
         overrun = of (λ c. c .regs .receiving .overrun) i;
+        up = of (λ c. c .regs .link .up) i;
+        changed = of (λ c. c .regs .link .changed) i;
         rx = rx i;
         tx = tx i;
         done = done i;

@@ -74,6 +74,28 @@ latches-low true false = omega arith
 latches-low false true = omega arith
 latches-low false false = omega arith
 
+-- The link and its change in theirs.
+link-0 : (a b : Bool) → bit 0 (flag a + 2 * flag b) ≡ a
+unfolding bit flag
+link-0 true true = refl
+link-0 true false = refl
+link-0 false true = refl
+link-0 false false = refl
+
+link-1 : (a b : Bool) → bit 1 (flag a + 2 * flag b) ≡ b
+unfolding bit flag
+link-1 true true = refl
+link-1 true false = refl
+link-1 false true = refl
+link-1 false false = refl
+
+link-small : (a b : Bool) → flag a + 2 * flag b < 4
+unfolding flag
+link-small true true = omega arith
+link-small true false = omega arith
+link-small false true = omega arith
+link-small false false = omega arith
+
 -- Six bytes and eight bytes from their words.
 six-back : (l : List ℕ) → length l ≡ 6 → Bytes l → bytes (wordAt 0 l) (bytes (wordAt 2 l) (bytes (wordAt 4 l) [])) ≡ l
 unfolding Written wordAt
@@ -123,6 +145,7 @@ module _ (r : Registers) (t : Typed r) (p : Pool) where
         pointer = r .pointer;
         control = r .control;
         mask = high-of 0 (r .mask) (omega arith) i;
+        link = record { up = link-0 (r .link .up) (r .link .changed) i; changed = link-1 (r .link .up) (r .link .changed) i };
       }
 
   pub words-kept : r .numbers .bank < 8 → Kept (wordsOf r p)
@@ -132,9 +155,10 @@ module _ (r : Registers) (t : Typed r) (p : Pool) where
       bankHigh = banked (r .numbers .bank) h;
       reservedHigh = high-of (r .receiving .reserved) 0x33 (t .bytes 0);
       latched = latches (r .sending .txEmpty) (r .receiving .overrun);
+      linkBits = link-small (r .link .up) (r .link .changed);
       maskLow = low-of 0 (r .mask) (omega arith);
     };
-    blank = record { none15 = refl; none16 = refl; none18 = refl; none20 = refl; none21 = refl };
+    blank = record { none16 = refl; none18 = refl; none20 = refl; none21 = refl };
   }
 
   -- and they are words, where the chip is well formed
@@ -181,7 +205,7 @@ module _ (r : Registers) (t : Typed r) (p : Pool) where
                                   (
                                     words 5,
                                     (
-                                      none,
+                                      omega (arith, link-small (r .link .up) (r .link .changed)),
                                       (
                                         none,
                                         (

@@ -12,7 +12,7 @@ pub struct Queue {
     pub slots: [Packet; 24],
 }
 
-// Document 01's registers by bank, the two latches, and the three FIFOs.
+// Document 01's registers by bank, the two latches, the link and its change, and the three FIFOs.
 pub struct Registers {
     pub tcr: u16,
     pub ephsr: u16,
@@ -30,6 +30,8 @@ pub struct Registers {
     pub bank: u8,
     pub txempty: bool,
     pub overrun: bool,
+    pub up: bool,
+    pub changed: bool,
     pub rx: Queue,
     pub tx: Queue,
     pub done: Queue,

@@ -78,10 +78,10 @@ any-frame noRoom e f c = refl
 
 -- Registers with these contents, for a rule that sees no others: the length and the flags of a frame are judged by them.
 abbrev pub withRcr : ℕ → Registers
-withRcr rcr = setRcr rcr (resetRegisters [])
+withRcr rcr = setRcr rcr (resetRegisters [] false)
 
 abbrev pub withControl : ℕ → Registers
-withControl control = setControl control (resetRegisters [])
+withControl control = setControl control (resetRegisters [] false)
 
 -- a frame that is long enough and judged to be stored, in a state that is in order
 pub record StowableOf (l : Layout) (w s q : List ℕ) (f : Frame) : Type 0 where

@@ -91,4 +91,4 @@ send-kind b = go (ℕ-discrete (at b 0) 7)
     go (no n) =
         let k = at b 0 in
         rw (ne-eqb k 7 n)
-        (neither (eqb k 1) _ _ refl (neither (eqb k 2) _ _ refl (neither (eqb k 3) _ _ refl (neither (eqb k 4) _ _ refl (neither (eqb k 5) _ _ refl (neither (eqb k 6) _ _ refl refl))))))
+        (neither (eqb k 1) _ _ refl (neither (eqb k 2) _ _ refl (neither (eqb k 3) _ _ refl (neither (eqb k 4) _ _ refl (neither (eqb k 5) _ _ refl (neither (eqb k 6) _ _ refl (neither (eqb k 8) _ _ refl refl)))))))

@@ -10,12 +10,12 @@ use Rattle.rules.specs.Answers.{Reply}
 use Rattle.rules.specs.Registers.{read, write, byte, word}
 use Rattle.rules.specs.Registers as registers
 use Rattle.rules.specs.Bench as rules
-use Rattle.rules.specs.Bench.{access, wire, frameEnds, send, unknown, eventOf}
+use Rattle.rules.specs.Bench.{access, wire, frameEnds, send, linkSet, unknown, eventOf}
 use Rattle.lists.specs.Written.{Writes}
 use Rattle.state.specs.declared.Width.{Width}
 use Rattle.state.specs.declared.Width.the-variants as width
 use Rattle.records.specs.declared.event.Event.{Event}
-use Rattle.records.specs.declared.event.Event.the-variants.{Read, Write, Wire, Ends, Send, Unknown}
+use Rattle.records.specs.declared.event.Event.the-variants.{Read, Write, Wire, Ends, Send, Link, Unknown}
 use Rattle.records.specs.declared.gather.Gathering.{Gathering}
 use Rattle.records.specs.declared.gather.Gathering.the-variants.{More, Refused}
 use Rattle.records.specs.Event.{meant}
@@ -32,6 +32,7 @@ eventBack (access (write w o v)) = Write (widthBack w) o v
 eventBack (wire c l) = Wire c
 eventBack (frameEnds align) = Ends align
 eventBack (send s) = Send (s .outcome) (s .collisions) (s .deferral)
+eventBack (linkSet x) = Link x
 eventBack unknown = Unknown
 
 event-back : (e : Event) (bytes : List ℕ) → eventBack (meant e bytes) ≡ e
@@ -43,6 +44,7 @@ event-back (Write width.Word o v) bytes = refl
 event-back (Wire c) bytes = refl
 event-back (Ends align) bytes = refl
 event-back (Send o c d) bytes = refl
+event-back (Link x) bytes = refl
 event-back Unknown bytes = refl
 
 pub event-once : (bytes : List ℕ) (x y : Event) → meant x bytes ≡ eventOf bytes → meant y bytes ≡ eventOf bytes → x ≡ y

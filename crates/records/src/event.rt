@@ -6,13 +6,14 @@ ghost use Rattle.rules.specs.Bench.{eventOf};
 ghost use Rattle.rules.specs.Watch.{isSend};
 ghost use Rattle.records.specs.Event.{meant};
 
-// Width, offset and value of an access, the count of wire bytes, the flag alignment, and a send's outcome, collisions and deferral.
+// Width, offset and value of an access, the count of wire bytes, the flag alignment, a send's outcome, collisions and deferral, and the link's byte.
 pub enum Event {
     Read(Width, u8),
     Write(Width, u8, u16),
     Wire(u8),
     Ends(bool),
     Send(u8, u8, u8),
+    Link(u8),
     Unknown,
 }
 
@@ -29,6 +30,7 @@ pub fn event_of(bytes: &[u8]) -> Event
         5 => Event::Wire(bytes[1]),
         6 => Event::Ends(bits::byte_is_set(bytes[1], 1)),
         7 => Event::Send(bytes[1], bytes[2], bytes[3]),
+        8 => Event::Link(bytes[1]),
         _ => Event::Unknown,
     }
 }

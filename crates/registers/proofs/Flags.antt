@@ -14,7 +14,7 @@ use Rattle.state.specs.Promise.{QueuesIn}
 use Rattle.registers.proofs.Queues.{some-count}
 
 pub shows : (w : List ℕ) → Kept w → (r : ℕ) (granted full : Bool) → granted ≡ bit 15 (word w 17)
-    → full ≡ (bit 12 (word w 1) && bit 6 (word w 14)) || (failed (word w 1) && bit 5 (word w 14))
+    → full ≡ (bit 12 (word w 1) && bit 6 (word w 14)) || (failed (word w 1) && bit 5 (word w 14)) || (bit 1 (word w 15) && bit 7 (word w 14))
     → r ≡ flag (not (eqb (word w 6) 0)) + 2 * flag (not (eqb (word w 9) 0)) + word w 13 + 8 * flag (not granted) + 32 * flag full
     → (l : Layout) (s q mem : List ℕ) → QueuesIn (figures w) q → r ≡ status (viewOf l w s q mem)
 unfolding status eph

@@ -1,26 +1,32 @@
 -- The words after a reset.
-use mathlib.Core.Path.{_≡_, refl}
-use mathlib.Core.List.{List, _++_}
-use Prim.Native.Nat.{ℕ}
+use mathlib.Core.Path.{_≡_, refl, ap}
+use mathlib.Core.Bool.{false}
+use mathlib.Core.List.{List, [], _++_}
+use Prim.Native.Nat.{ℕ, _%_}
+use native.Mathlib.Omega.{arith}
 use lib.ListN.{length, set, take, drop, replicate}
 use Rattle.rules.specs.Bits.{bit, flag}
+use Rattle.rules.specs.Chip.{Link, resetRegisters}
+use Rattle.rules.specs.Fields.{setLink}
+use Rattle.state.specs.View.{word, bytes}
+use Rattle.state.specs.Links.{forgets}
 use Rattle.state.specs.Written.{Written, written-out}
 use Rattle.registers.specs.Promises.{zeroBut, WordsReset}
 
 -- what the stores leave
-abbrev resetWords : List ℕ → List ℕ
-resetWords w = set (set (set (set (zeroBut w) 5 0x3300) 7 0x3300) 13 4) 17 0x8000
+abbrev resetWords : ℕ → List ℕ → List ℕ
+resetWords x w = set (set (set (set (set (zeroBut w) 15 x) 5 0x3300) 7 0x3300) 13 4) 17 0x8000
 
-pub reset-to : (w : List ℕ) → length w ≡ 32 → WordsReset w (resetWords w)
+pub reset-to : (x : ℕ) (w : List ℕ) → length w ≡ 32 → x ≡ word w 15 % 2 → WordsReset w (resetWords x w)
 unfolding Written bit flag
-reset-to = written-out 32 (λ w. WordsReset w (resetWords w)) (λ a b c d e f g h i j k l m n o p q r s t u x y z a2 b2 c2 d2 e2 f2 g2 h2.
+reset-to new = written-out 32 (λ w. new ≡ word w 15 % 2 → WordsReset w (resetWords new w)) (λ a b c d e f g h i j k l m n o p q r s t u x y z a2 b2 c2 d2 e2 f2 g2 h2 right.
     record {
-      regs = refl;
+      regs = ap (λ (y : Link). setLink y (resetRegisters (bytes k (bytes l (bytes m []))) false)) (forgets p new right);
       none = refl;
       kept = record {
         whole = refl;
-        fixed = record { bankHigh = refl; reservedHigh = refl; latched = refl; maskLow = refl };
-        blank = record { none15 = refl; none16 = refl; none18 = refl; none20 = refl; none21 = refl };
+        fixed = record { bankHigh = refl; reservedHigh = refl; latched = refl; linkBits = omega (arith, right); maskLow = refl };
+        blank = record { none16 = refl; none18 = refl; none20 = refl; none21 = refl };
       };
     })
 

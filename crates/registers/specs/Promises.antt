@@ -29,9 +29,9 @@ pub record Acknowledges (v : ℕ) (w q w′ q′ : List ℕ) : Type 0 where
 abbrev pub zeroBut : List ℕ → List ℕ
 zeroBut w = replicate 10 0 ++ (take 3 (drop 10 w) ++ replicate 19 0)
 
--- the words after a reset that keeps the station address; the figures are 0, until they are reset with the pool
+-- the words after a reset that keeps the station address and the link; the figures are 0, until they are reset with the pool
 pub record WordsReset (w w′ : List ℕ) : Type 0 where
-  pub regs : registersIn w′ ≡ resetRegisters (registersIn w .receiving .station)
+  pub regs : registersIn w′ ≡ resetRegisters (registersIn w .receiving .station) (registersIn w .link .up)
   pub none : figures w′ ≡ replicate 8 0
   pub kept : Kept w′
 

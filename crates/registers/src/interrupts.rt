@@ -1,4 +1,5 @@
 // Interrupt status, EPH, acknowledge, and the line.
+use crate::link::has_changed;
 use crate::words::high_only;
 use crate::words::latches_after;
 use state::Answer;
@@ -7,6 +8,7 @@ use state::CONTROL;
 use state::EPHSR;
 use state::INTERRUPT;
 use state::LATCHES;
+use state::LINK;
 use state::PACKET;
 use state::RX_COUNT;
 use state::Width;
@@ -39,16 +41,18 @@ fn failed(ephsr: u16) -> bool
     bits::both(d, !bits::is_set(ephsr, flags::TX_SUC))
 }
 
-// EPH: a counter is full, or a send has failed.
-fn eph(ephsr: u16, control: u16) -> bool
-    ensures { λ b. ⌜ b ≡ (bit 12 ephsr && bit 6 control) || (rules.failed ephsr && bit 5 control) ⌝ }
+// EPH: a counter is full, a send has failed, or a change of the link was seen.
+fn eph(ephsr: u16, control: u16, link: u16) -> bool
+    requires { ⌜ link < 4 ⌝ }
+    ensures { λ b. ⌜ b ≡ (bit 12 ephsr && bit 6 control) || (rules.failed ephsr && bit 5 control) || (bit 1 link && bit 7 control) ⌝ }
 {
     let full = bits::both(
         bits::is_set(ephsr, flags::CTR_ROL),
         bits::is_set(control, flags::CR_ENABLE),
     );
     let fail = bits::both(failed(ephsr), bits::is_set(control, flags::TE_ENABLE));
-    bits::either(full, fail)
+    let change = bits::both(has_changed(link), bits::is_set(control, flags::LE_ENABLE));
+    bits::either(bits::either(full, fail), change)
 }
 
 // The bits of interrupt status; the latches stand at theirs.
@@ -72,7 +76,7 @@ pub fn status(words: &[u16]) -> u16
     ensures small { λ r. ⌜ r < 64 ⌝ }
 {
     let granted = !bits::is_set(words[PACKET], flags::ALLOCATION_FAILED);
-    let eph = eph(words[EPHSR], words[CONTROL]);
+    let eph = eph(words[EPHSR], words[CONTROL], words[LINK]);
     gathered(
         words[RX_COUNT] != 0,
         words[COMPLETION_COUNT] != 0,

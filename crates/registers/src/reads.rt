@@ -3,12 +3,14 @@ use state::Answer;
 use state::COMPLETION_COUNT;
 use state::ECR;
 use state::EPHSR;
+use state::LINK;
 use state::NO_PACKET;
 use state::RX_COUNT;
 use state::flags;
 ghost use mathlib.Core.Path.{_≡_};
 ghost use lib.ListN.{length};
-ghost use Rattle.rules.specs.Bits.{wordOf};
+ghost use Rattle.rules.specs.Bits.{bit, wordOf};
+ghost use Rattle.rules.specs.Link.{shown};
 ghost use Rattle.rules.specs.Registers as rules;
 ghost use Rattle.state.specs.View.{word, figures, queueIn, Kept};
 ghost use Rattle.state.specs.Promise.{QueuesIn, Does};
@@ -43,6 +45,14 @@ pub fn heads(words: &[u16], queues: &[u8]) -> u16
     ensures { λ r. ⌜ r ≡ wordOf (rules.headOf (queueIn 2 (word (now (words .entry)) 9) (now (queues .entry)))) (rules.headOf (queueIn 0 (word (now (words .entry)) 6) (now (queues .entry)))) ⌝ }
 {
     bits::word(completion_shown(words, queues), rx_shown(words, queues))
+}
+
+// EPHSR, with the link at bit 14.
+pub fn ephsr(words: &[u16]) -> u16
+    requires { ⌜ Kept (now words) ⌝ }
+    ensures { λ r. ⌜ r ≡ shown (bit 0 (word (now (words .entry)) 15)) (word (now (words .entry)) 1) ⌝ }
+{
+    state::shown_ephsr(words[EPHSR], words[LINK])
 }
 
 // ECR is cleared, and EPHSR bit 12, after the value is taken.

@@ -4,6 +4,7 @@ use crate::words::new_rcr;
 use state::Answer;
 use state::BANK;
 use state::LATCHES;
+use state::LINK;
 use state::PACKET;
 use state::RCR;
 use state::RESERVED;
@@ -41,19 +42,21 @@ fn cleared_words(words: &mut [u16])
     zeroed(&mut words[STATION + 3..32]);
 }
 
-// The reset values of all words but those of the station address, which stays.
+// The reset values of all words but those of the station address, which stays; so does the link, and its change is forgotten.
 pub fn reset_words(words: &mut [u16])
     requires { ⌜ length (now words) ≡ 32 ⌝ }
     ensures { λ _. ⌜ WordsReset (now (words .entry)) (now (words .exit)) ⌝ }
 {
+    let link = words[LINK] % 2;
     cleared_words(words);
+    words[LINK] = link;
     words[RESERVED] = HIGH_33;
     words[BANK] = HIGH_33;
     words[LATCHES] = 1 << flags::TX_EMPTY;
     words[PACKET] = 1 << flags::ALLOCATION_FAILED;
 }
 
-// All is reset but the station address and the memory.
+// All is reset but the station address, the link and the memory.
 fn soft_reset(words: &mut [u16], sets: &mut [u32], queues: &mut [u8])
     requires { ⌜ Sound (now words) (now sets) (now queues) ⌝ }
     ensures { λ _. ⌜ SoftResets (now (words .entry)) (now (sets .entry)) (now (queues .entry)) (now (words .exit)) (now (sets .exit)) (now (queues .exit)) ⌝ }

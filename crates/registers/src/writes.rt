@@ -4,7 +4,9 @@ use crate::words::ephsr_after;
 use crate::words::low_set;
 use state::Answer;
 use state::BANK;
+use state::CONTROL;
 use state::EPHSR;
+use state::LINK;
 use state::PACKET;
 use state::RESERVED;
 use state::TCR;
@@ -36,6 +38,16 @@ pub fn write_tcr(words: &mut [u16], width: Width, offset: u8, value: u16) -> Ans
     let tcr = state::merged(width, offset, value, words[TCR]);
     words[TCR] = tcr;
     words[EPHSR] = ephsr_after(tcr, words[EPHSR]);
+    Answer::Done(0)
+}
+
+// Control. A change of the link is forgotten.
+pub fn write_control(words: &mut [u16], width: Width, offset: u8, value: u16) -> Answer
+    requires { ⌜ Kept (now words) ⌝ }
+    ensures { λ a. ⌜ Does (rules.writeRegister rules.CONTROL (rules.lanesAt (widthOf width) offset) value) (now (words .entry)) a (now (words .exit)) ⌝ }
+{
+    words[CONTROL] = state::merged(width, offset, value, words[CONTROL]);
+    words[LINK] = words[LINK] % 2;
     Answer::Done(0)
 }
 

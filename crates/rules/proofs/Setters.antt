@@ -4,8 +4,8 @@ use mathlib.Core.Bool.{Bool}
 use mathlib.Core.List.{List, [], _∷_, map}
 use Prim.Native.Nat.{ℕ}
 use lib.ListN.{set}
-use Rattle.rules.specs.Chip.{Registers, Layout, Pool}
-use Rattle.rules.specs.Fields.{setTcr, setEphsr, setEcr, setTxEmpty, setRcr, setReserved, setStation, setTable, setOverrun, setBank, setPacket, setResult, setWaiting, setPointer, setControl, setMask, setPages, setRx, setTx, setCompletion}
+use Rattle.rules.specs.Chip.{Link, Registers, Layout, Pool}
+use Rattle.rules.specs.Fields.{setTcr, setEphsr, setEcr, setTxEmpty, setRcr, setReserved, setStation, setTable, setOverrun, setBank, setPacket, setResult, setWaiting, setPointer, setControl, setMask, setLink, setPages, setRx, setTx, setCompletion}
 
 -- what a field holds
 pub data Field : Type 0 where
@@ -14,6 +14,7 @@ pub data Field : Type 0 where
   bytes : List ℕ → Field
   lists : List (List ℕ) → Field
   laid : Layout → Field
+  linked : Link → Field
 
 -- all fields of the registers, and of the pool
 abbrev pub fields : Registers → List Field
@@ -21,7 +22,7 @@ fields r =
     number (r .sending .tcr) ∷ number (r .sending .ephsr) ∷ number (r .sending .ecr) ∷ latch (r .sending .txEmpty)
     ∷ number (r .receiving .rcr) ∷ number (r .receiving .reserved) ∷ bytes (r .receiving .station) ∷ bytes (r .receiving .table) ∷ latch (r .receiving .overrun)
     ∷ number (r .numbers .bank) ∷ number (r .numbers .packet) ∷ number (r .numbers .result) ∷ number (r .numbers .waiting)
-    ∷ number (r .pointer) ∷ number (r .control) ∷ number (r .mask) ∷ []
+    ∷ number (r .pointer) ∷ number (r .control) ∷ number (r .mask) ∷ linked (r .link) ∷ []
 
 abbrev pub poolFields : Pool → List Field
 poolFields q = lists (q .pages) ∷ bytes (q .rx) ∷ bytes (q .tx) ∷ bytes (q .completion) ∷ laid (q .layout) ∷ []
@@ -35,8 +36,8 @@ pub record Row : Type 0 where
 abbrev pub row : List Field → ℕ → Field → Row
 row after place content = record { after = after; place = place; content = content }
 
-abbrev pub rows : Registers → ℕ → Bool → List ℕ → List Row
-rows r x b l =
+abbrev pub rows : Registers → ℕ → Bool → List ℕ → Link → List Row
+rows r x b l k =
     row (fields (setTcr x r)) 0 (number x)
     ∷ row (fields (setEphsr x r)) 1 (number x)
     ∷ row (fields (setEcr x r)) 2 (number x)
@@ -53,6 +54,7 @@ rows r x b l =
     ∷ row (fields (setPointer x r)) 13 (number x)
     ∷ row (fields (setControl x r)) 14 (number x)
     ∷ row (fields (setMask x r)) 15 (number x)
+    ∷ row (fields (setLink k r)) 16 (linked k)
     ∷ []
 
 abbrev pub poolRows : Pool → List (List ℕ) → List ℕ → List Row
@@ -67,8 +69,8 @@ poolRows q ls l =
 abbrev pub replacing : List Field → Row → Row
 replacing before x = row (set before (x .place) (x .content)) (x .place) (x .content)
 
-pub registers-alone : (r : Registers) (x : ℕ) (b : Bool) (l : List ℕ) → rows r x b l ≡ map (replacing (fields r)) (rows r x b l)
-registers-alone r x b l = refl
+pub registers-alone : (r : Registers) (x : ℕ) (b : Bool) (l : List ℕ) (k : Link) → rows r x b l k ≡ map (replacing (fields r)) (rows r x b l k)
+registers-alone r x b l k = refl
 
 pub pool-alone : (q : Pool) (ls : List (List ℕ)) (l : List ℕ) → poolRows q ls l ≡ map (replacing (poolFields q)) (poolRows q ls l)
 pool-alone q ls l = refl

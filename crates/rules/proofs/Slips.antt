@@ -1,7 +1,7 @@
--- Short laws beside the definitions, for the wrong models of must-fail/: four of document 01's plausible slips, those of document 02's W4, and others. (The other two slips, adjacent pages and bytes after a frame, are
+-- Short laws beside the definitions, for the wrong models of must-fail/: four of document 01's plausible slips, those of document 02's W4 and W8, and others. (The other two slips, adjacent pages and bytes after a frame, are
 -- edits of `packet`. An edit reaches its own crate only, so these laws stand here and not in `laws`.)
 use mathlib.Core.Path.{_≡_, refl}
-use mathlib.Core.Bool.{Bool, true, false, cond}
+use mathlib.Core.Bool.{Bool, true, false, cond, xor, _||_}
 use mathlib.Core.List.{List, [], _∷_, _++_}
 use Prim.Native.Nat.{ℕ, zero, suc, _*_, _≤_, _<_}
 use native.Mathlib.Omega.{arith}
@@ -10,16 +10,17 @@ use lib.ListN.{length, getD, take}
 use lib.Seq.{getD-set-same, getD-set-other}
 use Rattle.rules.specs.Bits.{bit, lowByte, highByte, wordOf, wordAt}
 use Rattle.rules.specs.Lists.{firstEmpty, some?}
-use Rattle.rules.specs.Chip.{Chip, size, pagesAt, free}
+use Rattle.rules.specs.Chip.{Registers, Chip, size, pagesAt, free}
 use Rattle.rules.specs.Fields.{setRx, inPool}
 use Rattle.rules.specs.Answers.{Effect, refuse}
 use Rattle.rules.specs.Mmu.{perform, allocate, reset, removeAndRelease, resetTx, lowestNumber, grant, due, settle, freed, giveBack}
+use Rattle.rules.specs.Link.{relink, shownEphsr}
 use Rattle.rules.specs.Data.{against, ifOpen}
 use Rattle.rules.specs.Crc.{crcBit, crcBits, crcFrom, crc, hash, mirror, fcsWord, fourBytes, fcs}
 use Rattle.rules.specs.Tests.{ascends, allBelow, apart, noneOwned, pagesGood, laidGood, queueGood, queuesGood, numbersGood, requestGood, formed, fit}
-use Rattle.rules.specs.Registers.{byte, word, read, write, misplaced, registerAt, lanesAt, taken, headOf, lowOnly, softReset, readRegister, writeRegister, access}
+use Rattle.rules.specs.Registers.{byte, word, Lanes, low, high, both, CONTROL, INTERRUPT, read, write, misplaced, registerAt, lanesAt, taken, headOf, lowOnly, softReset, writeInterrupt, readRegister, writeRegister, access}
 use Rattle.rules.specs.Receive.{Frame, sameBytes, badCrc, Arrival, stored, disabled, notAccepted, tooLong, bad, noRoom, countOf, needed, image, after}
-use Rattle.rules.specs.Send.{Send, byteCount, appends, padded, ended, onWire, good, autoRelease, tally, counted, nibble, sendHead, ifUsable, ifSendable}
+use Rattle.rules.specs.Send.{Send, byteCount, appends, padded, ended, onWire, good, autoRelease, tally, counted, nibble, statusWord, sentRegisters, sendHead, ifUsable, ifSendable}
 use Rattle.rules.specs.Step.{driver, serve, stepOf, runOf, history}
 
 -- Where nothing waits, pages that are given back are free, and that is all.
@@ -104,6 +105,34 @@ sent-leaves-tx s k rest c out = either (autoRelease (good (c .regs .sending .tcr
 
     settled : (x : Chip) → x .pool .tx ≡ rest → settle x .pool .tx ≡ rest
     settled x p = either (due x) _ x p p
+
+-- The link (document 02, W8). The same state again is no change.
+again : (a b : Bool) → a || xor b b ≡ a
+unfolding xor
+again true b = refl
+again false true = refl
+again false false = refl
+
+pub same-state-no-change : (r : Registers) → relink (r .link .up) r .link ≡ r .link
+same-state-no-change r = λ i. record { up = r .link .up; changed = again (r .link .changed) (r .link .up) i }
+
+-- A change is forgotten by a write to either control byte, and by none to interrupt status and mask; a soft reset keeps the link too.
+pub control-forgets : (p : Lanes) (v : ℕ) (c : Chip) → writeRegister CONTROL p v c .chip .regs .link ≡ record { up = c .regs .link .up; changed = false }
+unfolding writeRegister
+control-forgets p v c = refl
+
+pub mask-leaves-it : (p : Lanes) (v : ℕ) (c : Chip) → writeRegister INTERRUPT p v c .chip .regs .link ≡ c .regs .link
+unfolding writeRegister writeInterrupt
+mask-leaves-it low v c = refl
+mask-leaves-it high v c = refl
+mask-leaves-it both v c = refl
+
+pub reset-keeps-link : (c : Chip) → softReset c .regs .link ≡ record { up = c .regs .link .up; changed = false }
+reset-keeps-link c = refl
+
+-- The status word of a send is EPHSR as it is shown then: sends leave the link, good ones too.
+pub sends-leave-link : (isGood : Bool) (s : Send) (address : List ℕ) (emptied : Bool) (r : Registers) → statusWord isGood s address r ≡ shownEphsr (sentRegisters isGood s address emptied r)
+sends-leave-link isGood s address emptied r = refl
 
 -- A word is made again of its low byte and its high byte.
 pub word-again : (x : ℕ) → x < 65536 → wordOf (lowByte x) (highByte x) ≡ x

@@ -9,9 +9,9 @@ use Rattle.rules.specs.Chip.{Chip, powerUp, stripsUp}
 use Rattle.rules.specs.Answers.{Reply, Turn, done, refusal}
 use Rattle.rules.specs.Registers.{Access, read, write, byte, word}
 use Rattle.rules.specs.Send.{Send}
-use Rattle.rules.specs.Step.{driver, frame, sent, step}
+use Rattle.rules.specs.Step.{driver, frame, sent, link, step}
 
--- what a record asks for (an "event" of refusal 11 is a frame or a send)
+-- what a record asks for (an "event" of refusal 11 is a frame, a send or the link set)
 pub data Event : Type 0 where
   access : Access → Event
   -- byte 1's count, and the wire bytes behind it
@@ -19,6 +19,8 @@ pub data Event : Type 0 where
   -- the flag alignment
   frameEnds : Bool → Event
   send : Send → Event
+  -- byte 1
+  linkSet : ℕ → Event
   unknown : Event
 
 -- the record's byte k
@@ -28,7 +30,7 @@ at bytes k = getD bytes k 0
 abbrev pub valueIn : List ℕ → ℕ
 valueIn bytes = wordOf (at bytes 2) (at bytes 3)
 
--- "Byte 0: 1 read byte, 2 read word, 3 write byte, 4 write word (offset, value low, high); 5 wire bytes", "6 frame ends (byte 1: .. 1 alignment)", "bit 0 .. ignored" (W4), "7 send (outcome, collisions, deferral)"; "Unused bytes are ignored."
+-- "Byte 0: 1 read byte, 2 read word, 3 write byte, 4 write word (offset, value low, high); 5 wire bytes", "6 frame ends (byte 1: .. 1 alignment)", "bit 0 .. ignored" (W4), "7 send (outcome, collisions, deferral)"; "Record kind 8: byte 1 is 0 or 1" (W8); "Unused bytes are ignored."
 unfoldable pub eventOf : List ℕ → Event
 eventOf b =
     cond (eqb (at b 0) 1) (access (read byte (at b 1)))
@@ -37,7 +39,8 @@ eventOf b =
     (cond (eqb (at b 0) 4) (access (write word (at b 1) (valueIn b)))
     (cond (eqb (at b 0) 5) (wire (at b 1) (drop 2 b))
     (cond (eqb (at b 0) 6) (frameEnds (bit 1 (at b 1)))
-    (cond (eqb (at b 0) 7) (send (record { outcome = at b 1; collisions = at b 2; deferral = at b 3 })) unknown))))))
+    (cond (eqb (at b 0) 7) (send (record { outcome = at b 1; collisions = at b 2; deferral = at b 3 }))
+    (cond (eqb (at b 0) 8) (linkSet (at b 1)) unknown)))))))
 
 -- the chip, the wire bytes gathered so far, and the output buffer
 pub record Bench : Type 0 where
@@ -73,6 +76,8 @@ answer (wire count bytes) b = gather count bytes b
 answer (frameEnds align) b = told (step (frame (record { bytes = b .gathered; alignment = align })) (b .chip)) [] (b .output)
 -- a send is lent the bench's buffer
 answer (send s) b = let t = step (sent s (b .output)) (b .chip) in told t (b .gathered) (t .output)
+-- what is gathered stays
+answer (linkSet x) b = told (step (link x) (b .chip)) (b .gathered) (b .output)
 -- "record cut short or of unknown kind": "A 17 prints its line and the run goes on."
 answer unknown b = record { reply = refusal 17; after = b }
 

@@ -36,6 +36,13 @@ pub record Numbers : Type 0 where
   -- of no bank: how many pages an allocation waits for, 0 where none waits (document 02, W1)
   pub waiting : ℕ
 
+-- the cable, of no bank (document 02, W8)
+pub record Link : Type 0 where
+  -- is the link up
+  pub up : Bool
+  -- a change of it was seen, and no write to a control byte came since
+  pub changed : Bool
+
 pub record Registers : Type 0 where
   pub sending : Sending
   pub receiving : Receiving
@@ -46,6 +53,7 @@ pub record Registers : Type 0 where
   pub control : ℕ
   -- bank 2, offset D
   pub mask : ℕ
+  pub link : Link
 
 -- Where the bytes of packets lie: in pages of 256 bytes, which packets take and give back; or "each packet in its own strip of 2,048 bytes", which is eight pages
 -- of its own (W3). Packet k of strips has the first of pages 8k to 8k + 7, so that its byte a lies at 2048k + a.
@@ -97,23 +105,25 @@ abbrev pub allocated : ℕ → Chip → Bool
 allocated k c = some? (pagesAt c k)
 
 -- "Reset values: .. all 0 but allocation result 80h and TX EMPTY set." A soft reset keeps the station address. No allocation waits: "40h and a soft reset drop it".
-abbrev pub resetRegisters : List ℕ → Registers
-resetRegisters station = record {
+-- "a soft reset keeps the link and forgets the change" (W8)
+abbrev pub resetRegisters : List ℕ → Bool → Registers
+resetRegisters station up = record {
   sending = record { tcr = 0; ephsr = 0; ecr = 0; txEmpty = true };
   receiving = record { rcr = 0; reserved = 0; station = station; table = replicate 8 0; overrun = false };
   numbers = record { bank = 0; packet = 0; result = 0x80; waiting = 0 };
   pointer = 0;
   control = 0;
   mask = 0;
+  link = record { up = up; changed = false };
 }
 
 -- "no packets, FIFOs empty"
 abbrev pub emptyPool : Layout → ℕ → Pool
 emptyPool l n = record { layout = l; pages = replicate n []; rx = []; tx = []; completion = [] }
 
--- power-up of a part with n packets: "the memory is 6,144 zero bytes", or 49,152
+-- power-up of a part with n packets: "the memory is 6,144 zero bytes", or 49,152; "the link is down with no change seen" (W8)
 abbrev pub powered : Layout → ℕ → Chip
-powered l n = record { regs = resetRegisters (replicate 6 0); pool = emptyPool l n; memory = replicate (256 * pageNumbers l n) 0 }
+powered l n = record { regs = resetRegisters (replicate 6 0) false; pool = emptyPool l n; memory = replicate (256 * pageNumbers l n) 0 }
 
 -- the chip of document 01, and the one of strips
 abbrev pub powerUp : Chip

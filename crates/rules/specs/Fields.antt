@@ -2,17 +2,17 @@
 use mathlib.Core.Bool.{Bool}
 use mathlib.Core.List.{List}
 use Prim.Native.Nat.{ℕ}
-use Rattle.rules.specs.Chip.{Sending, Receiving, Numbers, Registers, Pool, Chip}
+use Rattle.rules.specs.Chip.{Sending, Receiving, Numbers, Link, Registers, Pool, Chip}
 
 -- a change of one group of the registers
 abbrev pub inSending : (Sending → Sending) → Registers → Registers
-inSending f r = record { sending = f (r .sending); receiving = r .receiving; numbers = r .numbers; pointer = r .pointer; control = r .control; mask = r .mask }
+inSending f r = record { sending = f (r .sending); receiving = r .receiving; numbers = r .numbers; pointer = r .pointer; control = r .control; mask = r .mask; link = r .link }
 
 abbrev pub inReceiving : (Receiving → Receiving) → Registers → Registers
-inReceiving f r = record { sending = r .sending; receiving = f (r .receiving); numbers = r .numbers; pointer = r .pointer; control = r .control; mask = r .mask }
+inReceiving f r = record { sending = r .sending; receiving = f (r .receiving); numbers = r .numbers; pointer = r .pointer; control = r .control; mask = r .mask; link = r .link }
 
 abbrev pub inNumbers : (Numbers → Numbers) → Registers → Registers
-inNumbers f r = record { sending = r .sending; receiving = r .receiving; numbers = f (r .numbers); pointer = r .pointer; control = r .control; mask = r .mask }
+inNumbers f r = record { sending = r .sending; receiving = r .receiving; numbers = f (r .numbers); pointer = r .pointer; control = r .control; mask = r .mask; link = r .link }
 
 abbrev pub setTcr : ℕ → Registers → Registers
 setTcr x = inSending (λ s. record { tcr = x; ephsr = s .ephsr; ecr = s .ecr; txEmpty = s .txEmpty })
@@ -54,13 +54,16 @@ abbrev pub setWaiting : ℕ → Registers → Registers
 setWaiting x = inNumbers (λ s. record { bank = s .bank; packet = s .packet; result = s .result; waiting = x })
 
 abbrev pub setPointer : ℕ → Registers → Registers
-setPointer x r = record { sending = r .sending; receiving = r .receiving; numbers = r .numbers; pointer = x; control = r .control; mask = r .mask }
+setPointer x r = record { sending = r .sending; receiving = r .receiving; numbers = r .numbers; pointer = x; control = r .control; mask = r .mask; link = r .link }
 
 abbrev pub setControl : ℕ → Registers → Registers
-setControl x r = record { sending = r .sending; receiving = r .receiving; numbers = r .numbers; pointer = r .pointer; control = x; mask = r .mask }
+setControl x r = record { sending = r .sending; receiving = r .receiving; numbers = r .numbers; pointer = r .pointer; control = x; mask = r .mask; link = r .link }
 
 abbrev pub setMask : ℕ → Registers → Registers
-setMask x r = record { sending = r .sending; receiving = r .receiving; numbers = r .numbers; pointer = r .pointer; control = r .control; mask = x }
+setMask x r = record { sending = r .sending; receiving = r .receiving; numbers = r .numbers; pointer = r .pointer; control = r .control; mask = x; link = r .link }
+
+abbrev pub setLink : Link → Registers → Registers
+setLink x r = record { sending = r .sending; receiving = r .receiving; numbers = r .numbers; pointer = r .pointer; control = r .control; mask = r .mask; link = x }
 
 abbrev pub setPages : List (List ℕ) → Pool → Pool
 setPages x q = record { layout = q .layout; pages = x; rx = q .rx; tx = q .tx; completion = q .completion }

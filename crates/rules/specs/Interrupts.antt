@@ -1,4 +1,4 @@
--- Document 01, "Registers": interrupt status, EPH, acknowledge, and the line.
+-- Document 01, "Registers": interrupt status, EPH, acknowledge, and the line; document 02, W8: the third term of EPH.
 use mathlib.Core.Bool.{Bool, cond, not, _&&_, _||_}
 use Prim.Native.Nat.{ℕ, _+_, _*_}
 use lib.ListN.{drop}
@@ -7,17 +7,16 @@ use Rattle.rules.specs.Lists.{some?}
 use Rattle.rules.specs.Chip.{Registers, Chip}
 use Rattle.rules.specs.Fields.{setTxEmpty, setOverrun, setCompletion, inRegisters, inPool}
 
--- EPHSR as a read shows it: as it is stored
-abbrev pub shownEphsr : Registers → ℕ
-shownEphsr r = r .sending .ephsr
-
 -- "any of EPHSR 15, 10, 9, 5, 4 while bit 0 is clear"
 unfoldable pub failed : ℕ → Bool
 failed e = (bit 15 e || bit 10 e || bit 9 e || bit 5 e || bit 4 e) && not (bit 0 e)
 
 -- "EPH is (EPHSR bit 12 and control bit 6) or (any of EPHSR 15, 10, 9, 5, 4 while bit 0 is clear, and control bit 5)."
+-- It "gains a third term": a change of the link, "raising EPH while control bit 7 is set" (W8).
 unfoldable pub eph : Registers → Bool
-eph r = (bit 12 (r .sending .ephsr) && bit 6 (r .control)) || (failed (r .sending .ephsr) && bit 5 (r .control))
+eph r =
+    (bit 12 (r .sending .ephsr) && bit 6 (r .control)) || (failed (r .sending .ephsr) && bit 5 (r .control))
+    || (r .link .changed && bit 7 (r .control))
 
 -- "0 RX not empty; 1 completion not empty; 2 TX EMPTY, latched; 3 allocation result bit 7 clear; 4 RX_OVRN, latched; 5 EPH; 6, 7 zero."
 unfoldable pub status : Chip → ℕ

@@ -10,10 +10,11 @@ pub mod WellFormed
 pub mod Tests
 -- "Numbers the bench prints"
 pub mod Answers
--- "Registers", "MMU commands": a packet's bytes, commands, interrupts, data, then each register
+-- "Registers", "MMU commands": a packet's bytes, commands, interrupts, the link (document 02, W8), data, then each register
 pub mod Packet
 pub mod Mmu
 pub mod Interrupts
+pub mod Link
 pub mod Data
 pub mod Registers
 -- "A frame arrives", "A send finishes"

@@ -9,7 +9,8 @@ use Rattle.rules.specs.Chip.{Registers, Chip, size, free, resetRegisters
 use Rattle.rules.specs.Fields.{setTcr, setEphsr, setRcr, setEcr, setReserved, setStation, setControl, setPacket, setPointer, setMask, setTable, setBank, inRegisters}
 use Rattle.rules.specs.Answers.{Effect, doneWith, did, refuse}
 use Rattle.rules.specs.Mmu.{command}
-use Rattle.rules.specs.Interrupts.{shownEphsr, status, acknowledge}
+use Rattle.rules.specs.Interrupts.{status, acknowledge}
+use Rattle.rules.specs.Link.{shownEphsr, forgetChange}
 use Rattle.rules.specs.Data.{readData, writeData}
 
 pub data Width : Type 0 where
@@ -112,9 +113,9 @@ unfoldable pub headOf : List ℕ → ℕ
 headOf [] = 0x80
 headOf (k ∷ ks) = k
 
--- "resets everything except the station address and packet memory; RCR then reads 8000h"
+-- "resets everything except the station address and packet memory; RCR then reads 8000h"; it "keeps the link and forgets the change" (W8)
 abbrev pub softReset : Chip → Chip
-softReset c = record { regs = setRcr 0x8000 (resetRegisters (c .regs .receiving .station)); pool = emptyPool (c .pool .layout) (size c); memory = c .memory }
+softReset c = record { regs = setRcr 0x8000 (resetRegisters (c .regs .receiving .station) (c .regs .link .up)); pool = emptyPool (c .pool .layout) (size c); memory = c .memory }
 
 -- "RCR bit 0 (RX_ABORT) can only be cleared by a write, never set."
 unfoldable pub newRcr : Lanes → ℕ → ℕ → ℕ
@@ -180,7 +181,8 @@ writeRegister ECR p v c = refuse 3 c
 writeRegister MIR p v c = refuse 3 c
 writeRegister RESERVED p v c = lowOnly p c (did (inRegisters (setReserved (lowByte v)) c))
 writeRegister (STATION k) p v c = did (inRegisters (λ r. setStation (mergedAt p v (2 * k) (r .receiving .station)) r) c)
-writeRegister CONTROL p v c = did (inRegisters (λ r. setControl (merged p v (r .control)) r) c)
+-- "a write to either control byte" forgets a change of the link (W8), also one that sets bit 7
+writeRegister CONTROL p v c = did (inRegisters (λ r. setControl (merged p v (r .control)) (forgetChange r)) c)
 writeRegister COMMAND p v c = lowOnly p c (command (lowByte v) c)
 -- "packet number (value mod 64)"
 writeRegister PACKET p v c = lowOnly p c (did (inRegisters (setPacket (v % 64)) c))

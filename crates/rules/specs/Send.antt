@@ -11,6 +11,7 @@ use Rattle.rules.specs.Fields.{setTx, setCompletion, inSending, inRegist
 use Rattle.rules.specs.Answers.{Turn, refused, refusedWith, over}
 use Rattle.rules.specs.Packet.{getBytes, putBytes}
 use Rattle.rules.specs.Mmu.{giveBack}
+use Rattle.rules.specs.Link.{shown}
 use Rattle.rules.specs.Crc.{fcs}
 use Rattle.rules.specs.Receive.{broadcast, group}
 
@@ -108,7 +109,7 @@ anyAt15 (x ∷ xs) = eqb x 15 || anyAt15 xs
 unfoldable pub newEcr : Bool → Send → ℕ → ℕ
 newEcr isGood s ecr = nibbles (tally isGood s ecr)
 
--- "EPHSR bits other than 12 become .."; "any then at 15 sets EPHSR bit 12"
+-- "EPHSR bits other than 12 become .."; "any then at 15 sets EPHSR bit 12". What is shown at bit 14 is the link: "sends leave it" (W8).
 unfoldable pub newEphsr : Bool → Send → List ℕ → Registers → ℕ
 newEphsr isGood s address r =
     outcomeBits isGood s + addressBits address + 2 ^ 12 * flag (bit 12 (r .sending .ephsr) || anyAt15 (tally isGood s (r .sending .ecr)))
@@ -131,6 +132,10 @@ autoRelease isGood r = isGood && bit 11 (r .control)
 abbrev pub retire : Bool → ℕ → Chip → Chip
 retire released k c = cond released (giveBack k c) (inPool (setCompletion (c .pool .completion ++ (k ∷ []))) c)
 
+-- EPHSR after it, as it is shown
+abbrev pub statusWord : Bool → Send → List ℕ → Registers → ℕ
+statusWord isGood s address r = shown (r .link .up) (newEphsr isGood s address r)
+
 -- "EPHSR is written to addresses 0 and 1."
 abbrev pub statusWritten : List ℕ → ℕ → Chip → Chip
 statusWritten pages e c = inMemory (putBytes (lowByte e ∷ highByte e ∷ []) 0 pages) c
@@ -146,7 +151,7 @@ sendHead s k rest c out =
       reply = record { number = 0; value = length bytes };
       chip =
           retire (autoRelease isGood (c .regs)) k
-          (statusWritten pages (newEphsr isGood s address (c .regs))
+          (statusWritten pages (statusWord isGood s address (c .regs))
           (inPool (setTx rest) (inRegisters (sentRegisters isGood s address (not (some? rest))) c)));
       output = over bytes out;
     }

@@ -8,24 +8,29 @@ use Rattle.rules.specs.Tests.{fit}
 use Rattle.rules.specs.Registers.{Access, access}
 use Rattle.rules.specs.Receive.{Frame, arrive}
 use Rattle.rules.specs.Send.{Send, finish}
+use Rattle.rules.specs.Link.{plug}
 
 pub data Input : Type 0 where
   driver : Access → Input
   frame : Frame → Input
   -- a send, and the output buffer that is lent for it
   sent : Send → List ℕ → Input
+  -- the link is set: its byte, 0 down, 1 up (document 02, W8)
+  link : ℕ → Input
 
--- the output buffer that an input lends: accesses and frames lend none
+-- the output buffer that an input lends: only a send lends one
 abbrev pub lent : Input → List ℕ
 lent (driver a) = []
 lent (frame f) = []
 lent (sent s out) = out
+lent (link x) = []
 
 -- on a chip that is well formed and has its memory
 unfoldable pub serve : Input → Chip → Turn
 serve (driver a) c = leaving [] (access a c)
 serve (frame f) c = leaving [] (arrive f c)
 serve (sent s out) c = finish s c out
+serve (link x) c = leaving [] (plug x c)
 
 -- on any chip: refusal 16 is first, whatever the input; n is the part's number of packets
 unfoldable pub stepOf : ℕ → Input → Chip → Turn

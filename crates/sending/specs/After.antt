@@ -13,7 +13,8 @@ use Rattle.rules.specs.Fields.{setTx, inRegisters, inPool}
 use Rattle.rules.specs.Answers.{Turn, refusal, refusalWith, refused, refusedWith}
 use Rattle.rules.specs.Packet.{getBytes, putBytes}
 use Rattle.rules.specs.Mmu.{giveBack}
-use Rattle.rules.specs.Send.{Send, inLimits, outcomeBits, addressBits, anyAt15, tally, newEphsr, sentRegisters, retire, statusWritten}
+use Rattle.rules.specs.Link.{shown, shownEphsr}
+use Rattle.rules.specs.Send.{Send, inLimits, outcomeBits, addressBits, anyAt15, tally, newEphsr, sentRegisters, retire, statusWord, statusWritten}
 use Rattle.lists.specs.Facts.{is-true, le-decides, _and_, member-at}
 use Rattle.wellformed.specs.Pool.{has-small}
 use Rattle.state.specs.declared.Answer.{Answer}
@@ -29,24 +30,28 @@ module _ {isGood : Bool} {s : Send} {bits : ℕ} {w q w′ q′ : List ℕ} (t :
   pub same-completion : QueuesIn (figures w) q → word w′ 9 ≡ word w 9
   same-completion o = t .queues .completion .many ∙ ap (λ (c : Chip). length (c .pool .completion)) (t .chip paged [] []) ∙ sym (o .completion .many)
 
-  -- the chip, once the status word is in memory
-  pub sent-view : (l : Layout) (sets pages mem address : List ℕ) {mem′ : List ℕ} → bits ≡ addressBits address → mem′ ≡ putBytes (lowByte (word w′ 1) ∷ highByte (word w′ 1) ∷ []) 0 pages mem
+  -- the status word: EPHSR as it is shown
+  abbrev statusIn : ℕ
+  statusIn = shown (bit 0 (word w′ 15)) (word w′ 1)
+
+  -- the chip, once it is in memory
+  pub sent-view : (l : Layout) (sets pages mem address : List ℕ) {mem′ : List ℕ} {x : ℕ} → bits ≡ addressBits address → x ≡ statusIn → mem′ ≡ putBytes (lowByte x ∷ highByte x ∷ []) 0 pages mem
       → let rest = drop 1 (queueIn 1 (word w 8) q) in
       viewOf l w′ sets q′ mem′
-      ≡ statusWritten pages (newEphsr isGood s address (registersIn w)) (inPool (setTx rest) (inRegisters (sentRegisters isGood s address (not (some? rest))) (viewOf l w sets q mem)))
+      ≡ statusWritten pages (statusWord isGood s address (registersIn w)) (inPool (setTx rest) (inRegisters (sentRegisters isGood s address (not (some? rest))) (viewOf l w sets q mem)))
   unfolding newEphsr
-  sent-view l sets pages mem address {mem′} e m =
-      let status = ap (λ (c : Chip). c .regs .sending .ephsr) (t .chip l sets mem)
-      ∙ ap (λ (b : ℕ). outcomeBits isGood s + b + 2 ^ 12 * flag (bit 12 (word w 1) || anyAt15 (tally isGood s (word w 3)))) e in
+  sent-view l sets pages mem address {mem′} e told m =
+      let status = told ∙ ap (λ (c : Chip). shownEphsr (c .regs)) (t .chip l sets mem)
+      ∙ ap (λ (b : ℕ). shown (bit 0 (word w 15)) (outcomeBits isGood s + b + 2 ^ 12 * flag (bit 12 (word w 1) || anyAt15 (tally isGood s (word w 3))))) e in
       t .chip l sets mem′
       ∙ ap₂ (λ (b : ℕ) (m : List ℕ). headGone isGood s b (viewOf l w sets q m)) e (m ∙ ap (λ (x : ℕ). putBytes (lowByte x ∷ highByte x ∷ []) 0 pages mem) status)
 
   -- and then the packet is retired
-  pub completes : {l : Layout} {sets pages mem w″ s″ q″ mem″ : List ℕ} {released : Bool} {k : ℕ} → k ≡ getD (queueIn 1 (word w 8) q) 0 0 → bits ≡ addressBits (getBytes 6 4 pages mem)
-      → mem″ ≡ putBytes (lowByte (word w′ 1) ∷ highByte (word w′ 1) ∷ []) 0 pages mem → RetiresOf l released k w′ sets q′ w″ s″ q″
+  pub completes : {l : Layout} {sets pages mem w″ s″ q″ mem″ : List ℕ} {released : Bool} {k x : ℕ} → k ≡ getD (queueIn 1 (word w 8) q) 0 0 → bits ≡ addressBits (getBytes 6 4 pages mem)
+      → x ≡ statusIn → mem″ ≡ putBytes (lowByte x ∷ highByte x ∷ []) 0 pages mem → RetiresOf l released k w′ sets q′ w″ s″ q″
       → CompletesOf l released isGood s pages (viewOf l w sets q mem) w″ s″ q″ mem″
-  completes {l} {sets} {pages} {mem} {mem″ = mem″} {released = released} h e m r = record {
-    chip = r .chip mem″ ∙ ap₂ (λ (i : ℕ) (d : Chip). retire released i d) h (sent-view l sets pages mem (getBytes 6 4 pages mem) e m);
+  completes {l} {sets} {pages} {mem} {mem″ = mem″} {released = released} h e told m r = record {
+    chip = r .chip mem″ ∙ ap₂ (λ (i : ℕ) (d : Chip). retire released i d) h (sent-view l sets pages mem (getBytes 6 4 pages mem) e told m);
     sound = r .sound;
   }
 

@@ -10,7 +10,7 @@ use Rattle.rules.specs.Chip.{Registers, Layout, paged, Chip}
 use Rattle.rules.specs.Fields.{setTx, inSending, inRegisters, inPool}
 use Rattle.rules.specs.Answers.{Turn}
 use Rattle.rules.specs.Packet.{getBytes}
-use Rattle.rules.specs.Send.{Send, outcomeBits, anyAt15, tally, newEcr, newEphsr, sentRegisters, retire, statusWritten, ifSendable}
+use Rattle.rules.specs.Send.{Send, outcomeBits, anyAt15, tally, newEcr, sentRegisters, retire, statusWord, statusWritten, ifSendable}
 use Rattle.state.specs.declared.Answer.{Answer}
 use Rattle.state.specs.Meaning.{replyOf}
 use Rattle.state.specs.View.{word, figures, viewOf, Kept}
@@ -83,7 +83,7 @@ completed released isGood s pages c =
     let rest = drop 1 (c .pool .tx) in
     let address = getBytes 6 4 pages (c .memory) in
     retire released (getD (c .pool .tx) 0 0)
-    (statusWritten pages (newEphsr isGood s address (c .regs))
+    (statusWritten pages (statusWord isGood s address (c .regs))
     (inPool (setTx rest) (inRegisters (sentRegisters isGood s address (not (some? rest))) c)))
 
 -- this chip is left in state and memory

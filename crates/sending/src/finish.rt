@@ -16,6 +16,7 @@ use state::Answer;
 use state::COMPLETION_COUNT;
 use state::CONTROL;
 use state::EPHSR;
+use state::LINK;
 use state::TCR;
 use state::TX_COUNT;
 use state::flags;
@@ -47,7 +48,8 @@ fn complete(
 {
     let address = address_bits(memory, pages);
     let head = after_send(words, queues, s, good, address);
-    packet::write_status(memory, pages, words[EPHSR]);
+    let status = state::shown_ephsr(words[EPHSR], words[LINK]);
+    packet::write_status(memory, pages, status);
     retire(words, sets, queues, head, released);
 }
 

@@ -4,13 +4,14 @@ use mathlib.Core.Bool.{Bool, true, false}
 use mathlib.Core.List.{List, [], _++_}
 use Prim.Native.Nat.{ℕ, zero, suc, _+_, _*_}
 use lib.ListN.{take, drop}
+use Rattle.rules.specs.Chip.{Chip}
+use Rattle.rules.specs.Interrupts.{lineUp}
 use Rattle.rules.specs.Bench.{Event, Bench, Form, plain, answer, eventOf}
 use Rattle.rules.specs.Watch.{isSend, watched}
 use Rattle.lists.specs.Written.{Writes}
 use Rattle.state.specs.declared.Answer.{Answer}
 use Rattle.state.specs.Meaning.{replyOf}
-use Rattle.state.specs.View.{view, figures}
-use Rattle.state.specs.Promise.{QueuesIn}
+use Rattle.state.specs.View.{view}
 use Rattle.records.specs.Gathers.{holding}
 use Rattle.turns.specs.Turns.{Held}
 
@@ -27,11 +28,11 @@ widest false = 30
 unfoldable pub roomFor : Bool → ℕ → ℕ
 roomFor watching n = widest watching * n + 10
 
--- the line of a reply, whatever page sets, memory and wire bytes stand beside these words, and of any event that is a send where `sent` says so
-abbrev pub Prints : Bool → ℕ → Answer → Bool → List ℕ → List ℕ → List ℕ → ℕ → List ℕ → ℕ → Type 0
-Prints watching number a sent w out before at after end =
-    (s q mem wire : List ℕ) (e : Event) → QueuesIn (figures w) q → sent ≡ isSend e
-    → Writes before at (formOf watching number e (record { reply = replyOf a; after = holding (view w s q mem) wire out })) after end
+-- the line of a reply, of any chip whose interrupt line is this, and of any event that is a send where `sent` says so
+abbrev pub Prints : Bool → ℕ → Answer → Bool → Bool → List ℕ → List ℕ → ℕ → List ℕ → ℕ → Type 0
+Prints watching number a sent up out before at after end =
+    (c : Chip) (wire : List ℕ) (e : Event) → up ≡ lineUp c → sent ≡ isSend e
+    → Writes before at (formOf watching number e (record { reply = replyOf a; after = holding c wire out })) after end
 
 -- record n of the input, from 0 on
 abbrev pub recordAt : ℕ → List ℕ → List ℕ

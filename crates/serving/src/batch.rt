@@ -13,7 +13,7 @@ ghost use Rattle.turns.specs.Turns.{Held};
 ghost use Rattle.serving.specs.Batch.{formOf, widest, roomFor, Prints, Answered};
 ghost use Rattle.serving.specs.Printed.{lastLine};
 
-// The line of a record, the bench's or that of `watch`; returns the place behind it.
+// The line of a record, the bench's or that of `watch`; returns the place behind it. The interrupt line is the caller's, so that this stays short enough for the compiler to have it in the loop.
 pub fn print(
     watching: bool,
     lines: &mut [u8],
@@ -21,18 +21,16 @@ pub fn print(
     counter: Counter,
     answer: Answer,
     sent: bool,
-    words: &[u16],
+    up: bool,
     out: &[u8],
 ) -> usize
-    requires { ⌜ Kept (now words) × ((q : List ℕ) × QueuesIn (figures (now words)) q) ⌝ }
     requires { ⌜ Counts counter × (length (now out) ≡ 2052) × (at + widest watching + 10 ≤ length (now lines)) ⌝ }
-    ensures { λ end. ⌜ Prints watching (counter .number) answer sent (now (words .entry)) (now (out .entry)) (now (lines .entry)) at (now (lines .exit)) end × (end ≤ at + widest watching) ⌝ }
+    ensures { λ end. ⌜ Prints watching (counter .number) answer sent up (now (out .entry)) (now (lines .entry)) at (now (lines .exit)) end × (end ≤ at + widest watching) ⌝ }
 {
     let shown = state::printed(answer);
     if !watching {
         return records::line_at(lines, at, counter, shown);
     }
-    let up = registers::line_up(words);
     records::watched_at(lines, at, counter, shown, up, sent, out)
 }
 
@@ -53,6 +51,7 @@ pub fn last_line(
         return 0;
     }
     let counter = records::counter_of(number);
+    let up = registers::line_up(words);
     print(
         watching,
         lines,
@@ -60,7 +59,7 @@ pub fn last_line(
         counter,
         Answer::CutShort,
         false,
-        words,
+        up,
         out,
     )
 }
@@ -92,7 +91,8 @@ pub fn answer_all(
         let bytes = &input[8 * k..8 * k + 8];
         let given = turns::answer(words, sets, queues, memory, wire, have, out, bytes);
         let sent = records::is_send(bytes);
-        *end = print(watching, lines, *end, counter, given, sent, words, out);
+        let up = registers::line_up(words);
+        *end = print(watching, lines, *end, counter, given, sent, up, out);
         counter = records::next(counter);
         k += 1;
     }

@@ -18,7 +18,7 @@ use Rattle.turns.specs.Served.{served-once}
 use Rattle.skarvoya.specs.Calls.{told, Calls, Sized, PowersUp, ShowsLine}
 use Rattle.skarvoya.specs.Records.{BenchInOrder, Roomy, ServesNext, RefusesRecord, AnswersRecord}
 
--- An access, a frame, a send.
+-- An access, a frame, a send, a link event.
 pub calls-once : (i : Input) (w s q mem : List ℕ) {n n′ : ℕ} {w₁ s₁ q₁ mem₁ out₁ w₂ s₂ q₂ mem₂ out₂ : List ℕ} → Calls i w s q mem n w₁ s₁ q₁ mem₁ out₁ → Calls i w s q mem n′ w₂ s₂ q₂ mem₂ out₂
     → (n ≡ n′) × (w₁ ≡ w₂) × (s₁ ≡ s₂) × (q₁ ≡ q₂) × (mem₁ ≡ mem₂) × (out₁ ≡ out₂)
 calls-once i w s q mem x y =

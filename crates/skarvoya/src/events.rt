@@ -1,4 +1,4 @@
-// Arriving frames and finished sends.
+// Arriving frames, finished sends and link events.
 use crate::order::in_order;
 use crate::told::told;
 use state::Answer;
@@ -52,4 +52,21 @@ pub extern "C" fn skarvoya_send(
         collisions,
         deferral,
     ))
+}
+
+// The link is set down (0) or up (1).
+#[no_mangle]
+pub extern "C" fn skarvoya_link(
+    words: &mut [u16],
+    sets: &[u32],
+    queues: &[u8],
+    memory: &[u8],
+    up: u8,
+) -> u32
+    ensures { λ n. ⌜ Calls (rules.link up) (now (words .entry)) (now (sets .entry)) (now (queues .entry)) (now (memory .entry)) n (now (words .exit)) (now (sets .entry)) (now (queues .entry)) (now (memory .entry)) [] ⌝ }
+{
+    if !in_order(words, sets, queues, memory) {
+        return told(Answer::Damaged);
+    }
+    told(chip::linked(words, sets, queues, memory, up))
 }

@@ -3,7 +3,7 @@
 mod order; // order.rt: is what was lent in order, refusal 16
 mod told; // told.rt: what a call returns
 mod driver; // driver.rt: accesses of the driver to the sixteen I/O addresses
-mod events; // events.rt: arriving frames and finished sends
+mod events; // events.rt: arriving frames, finished sends and link events
 mod entries; // entries.rt: power-up, and the interrupt line
 mod record; // record.rt: a record of the bench, and its printed line
 
@@ -12,5 +12,6 @@ pub use driver::skarvoya_write;
 pub use entries::skarvoya_line;
 pub use entries::skarvoya_power_up;
 pub use events::skarvoya_frame;
+pub use events::skarvoya_link;
 pub use events::skarvoya_send;
 pub use record::skarvoya_record;

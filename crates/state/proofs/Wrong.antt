@@ -1,4 +1,4 @@
--- Records with one wrong figure, and with an allocation that may not wait, computed: none is in order, so every entry that promises `Answers` gives 16.
+-- Records with one wrong figure, with a third bit in the link's word, and with an allocation that may not wait, computed: none is in order, so every entry that promises `Answers` gives 16.
 -- RX has packet 0 with pages 0 and 1, TX packet 17 with page 2.
 use mathlib.Core.Path.{_≡_, refl, ap, sym, _∙_}
 use mathlib.Core.Bool.{true, false, true≢false}
@@ -56,8 +56,8 @@ ready = record {
   sound = record {
     kept = record {
       whole = refl;
-      fixed = record { bankHigh = refl; reservedHigh = refl; latched = refl; maskLow = refl };
-      blank = record { none15 = refl; none16 = refl; none18 = refl; none20 = refl; none21 = refl };
+      fixed = record { bankHigh = refl; reservedHigh = refl; latched = refl; linkBits = omega arith; maskLow = refl };
+      blank = record { none16 = refl; none18 = refl; none20 = refl; none21 = refl };
     };
     queues = record {
       long = refl;
@@ -123,6 +123,10 @@ tx-bit-clear = refused 31 0 (λ o. let e : _≡_ {A = ℕ} 0 2 = o .sound .queue
 pub tx-bit-set : Gets16 30 1
 unfolding setOf
 tx-bit-set = refused 30 1 (λ o. let e : _≡_ {A = ℕ} 1 0 = o .sound .queues .inTx .lower in omega (arith, e))
+
+-- the link's word has a third bit
+pub third-bit-of-the-link : Gets16 15 4
+third-bit-of-the-link = refused 15 4 (λ o. let h : 4 < 4 = o .sound .kept .fixed .linkBits in omega (arith, h))
 
 -- What the tests of the rules refute is not in order.
 not-formed : (w s q : List ℕ) → formed 24 (view w s q []) ≡ false → Ready w s q → ⊥

@@ -30,26 +30,25 @@ tested true d = yes (d .sound refl)
 tested false d = no (λ p. true≢false (sym (d .complete p)))
 
 -- The words.
-fixed? : (bank reserved latches mask : ℕ) → Dec (Fixed bank reserved latches mask)
-fixed? bank reserved latches mask =
+fixed? : (bank reserved latches link mask : ℕ) → Dec (Fixed bank reserved latches link mask)
+fixed? bank reserved latches link mask =
     asks (λ x. x .bankHigh) (ℕ-discrete (bank / 8) 0x660)
     (λ a. asks (λ x. x .reservedHigh) (ℕ-discrete (reserved / 256) 0x33)
     (λ b. asks (λ x. x .latched) (ℕ-discrete latches (4 * flag (bit 2 latches) + 16 * flag (bit 4 latches)))
-    (λ c. asks (λ x. x .maskLow) (ℕ-discrete (mask % 256) 0) (λ d. yes (record { bankHigh = a; reservedHigh = b; latched = c; maskLow = d })))))
+    (λ c. asks (λ x. x .linkBits) (decLe (suc link) 4)
+    (λ d. asks (λ x. x .maskLow) (ℕ-discrete (mask % 256) 0) (λ e. yes (record { bankHigh = a; reservedHigh = b; latched = c; linkBits = d; maskLow = e }))))))
 
-blank? : (w15 w16 w18 w20 w21 : ℕ) → Dec (Blank w15 w16 w18 w20 w21)
-blank? w15 w16 w18 w20 w21 =
-    asks (λ x. x .none15) (ℕ-discrete w15 0)
-    (λ a. asks (λ x. x .none16) (ℕ-discrete w16 0)
-    (λ b. asks (λ x. x .none18) (ℕ-discrete w18 0)
-    (λ c. asks (λ x. x .none20) (ℕ-discrete w20 0)
-    (λ d. asks (λ x. x .none21) (ℕ-discrete w21 0) (λ e. yes (record { none15 = a; none16 = b; none18 = c; none20 = d; none21 = e }))))))
+blank? : (w16 w18 w20 w21 : ℕ) → Dec (Blank w16 w18 w20 w21)
+blank? w16 w18 w20 w21 =
+    asks (λ x. x .none16) (ℕ-discrete w16 0)
+    (λ a. asks (λ x. x .none18) (ℕ-discrete w18 0)
+    (λ b. asks (λ x. x .none20) (ℕ-discrete w20 0) (λ c. asks (λ x. x .none21) (ℕ-discrete w21 0) (λ d. yes (record { none16 = a; none18 = b; none20 = c; none21 = d })))))
 
 kept? : (w : List ℕ) → Dec (Kept w)
 kept? w =
     asks (λ x. x .whole) (ℕ-discrete (length w) 32)
-    (λ a. asks (λ x. x .fixed) (fixed? (word w 7) (word w 5) (word w 13) (word w 22))
-    (λ b. asks (λ x. x .blank) (blank? (word w 15) (word w 16) (word w 18) (word w 20) (word w 21)) (λ c. yes (record { whole = a; fixed = b; blank = c }))))
+    (λ a. asks (λ x. x .fixed) (fixed? (word w 7) (word w 5) (word w 13) (word w 15) (word w 22))
+    (λ b. asks (λ x. x .blank) (blank? (word w 16) (word w 18) (word w 20) (word w 21)) (λ c. yes (record { whole = a; fixed = b; blank = c }))))
 
 -- The queues.
 slots? : (p : List ℕ) (n : ℕ) (l : List ℕ) → Dec (Slots p n l)

@@ -3,9 +3,10 @@ use mathlib.Core.Path.{_≡_, refl, ap, sym, _∙_}
 use mathlib.Core.List.{List}
 use Prim.Native.Nat.{ℕ, _+_, _*_, _/_, _%_, _<_}
 use native.Mathlib.Omega.{arith}
-use Rattle.rules.specs.Bits.{lowByte, highByte, wordOf, wordAt}
+use Rattle.rules.specs.Bits.{bit, lowByte, highByte, wordOf, wordAt}
 use Rattle.rules.specs.Answers.{doneWith}
 use Rattle.rules.specs.Chip.{Layout}
+use Rattle.rules.specs.Link.{shown}
 use Rattle.rules.specs.Registers.{Register, Lanes, low, high, both, TCR, EPHSR, RCR, RESERVED, STATION, CONTROL, COMMAND, PACKET, POINTER, TABLE, BANK, UNUSED, ABSENT, registerAt, taken, readRegister}
 use Rattle.state.specs.declared.Answer.the-variants.{Done, NotModelled}
 use Rattle.state.specs.View.{word, registersIn, viewOf, Kept}
@@ -45,7 +46,7 @@ module _ (p : Lanes) (w : List ℕ) (h : Kept w) where
   unfolding readRegister
   reads-tcr = shows TCR p w _ h (λ l s q mem. refl)
 
-  pub reads-ephsr : Shows EPHSR p w (word w 1)
+  pub reads-ephsr : Shows EPHSR p w (shown (bit 0 (word w 15)) (word w 1))
   unfolding readRegister
   reads-ephsr = shows EPHSR p w _ h (λ l s q mem. refl)
 

@@ -24,6 +24,7 @@ use Rattle.state.specs.declared.Answer.the-variants.{Done, Misplaced, No
 use Rattle.state.specs.Meaning.{replyOf}
 use Rattle.state.specs.View.{word, registersIn, figures, queueIn, stripsFrom, listsOf, poolOf, viewOf, FixedIn, BlankIn, Kept}
 use Rattle.state.specs.Written.{Written, written-out}
+use Rattle.state.specs.Links.{two-bits}
 use Rattle.state.specs.Promise.{QueuesIn, Small, SoundOf, ReadyOf, MakesOf, Sets, Does}
 use Rattle.state.specs.Counted.{full-count}
 use Rattle.state.specs.Entry.{InOrderOf, RightOf, AnswersOf, StartedOf, LinesOf}
@@ -47,7 +48,7 @@ wordsWith r c =
     ∷ wordAt 4 (r .receiving .station)
     ∷ (4 * flag (r .sending .txEmpty) + 16 * flag (r .receiving .overrun))
     ∷ r .control
-    ∷ 0
+    ∷ (flag (r .link .up) + 2 * flag (r .link .changed))
     ∷ 0
     ∷ wordOf (r .numbers .packet) (r .numbers .result)
     ∷ 0
@@ -102,7 +103,7 @@ words-known : (w : List ℕ) → Kept w → w ≡ wordsWith (registersIn w) (fig
 unfolding Written wordAt
 words-known w k = written-out 32 Known (λ a b c d e f g h i j k l m n o p q r s t u v x y z a2 b2 c2 d2 e2 f2 g2 fix blank.
     λ ι. a ∷ b ∷ c ∷ d ∷ e ∷ fixed-high f (fix .reservedHigh) ι ∷ g ∷ fixed-high h (omega (arith, fix .bankHigh)) ι ∷ i ∷ j
-    ∷ halves k ι ∷ halves l ι ∷ halves m ι ∷ fix .latched ι ∷ o ∷ blank .none15 ι ∷ blank .none16 ι ∷ halves r ι ∷ blank .none18 ι ∷ t ∷ blank .none20 ι ∷ blank .none21 ι
+    ∷ halves k ι ∷ halves l ι ∷ halves m ι ∷ fix .latched ι ∷ o ∷ two-bits p (fix .linkBits) ι ∷ blank .none16 ι ∷ halves r ι ∷ blank .none18 ι ∷ t ∷ blank .none20 ι ∷ blank .none21 ι
     ∷ fixed-low x (fix .maskLow) ι ∷ y ∷ halves z ι ∷ halves a2 ι ∷ halves b2 ι ∷ halves c2 ι ∷ d2 ∷ e2 ∷ f2 ∷ g2 ∷ []) w (k .whole) (k .fixed) (k .blank)
 
 pub words-once : {w w′ : List ℕ} → Kept w → Kept w′ → registersIn w ≡ registersIn w′ → figures w ≡ figures w′ → w ≡ w′

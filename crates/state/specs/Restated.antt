@@ -296,11 +296,11 @@ module _ (w s q : List ℕ) (typed : (i : ℕ) → word w i < 65536) (fits : Sma
 pub words-restated : (w : List ℕ) → (FixedBytes w × NumbersFormed (word w 7) (word w 17)) ↔ (Kept w × GoodNumbers 24 (registersIn w .numbers))
 words-restated w = (
   λ f. (
-    record { whole = f .0 .whole; fixed = record { bankHigh = omega (arith, f .0 .bankHigh, f .1 .bankSmall); reservedHigh = f .0 .reservedHigh; latched = latches (word w 13) (f .0 .latched); maskLow = f .0 .maskLow }; blank = f .0 .blank },
+    record { whole = f .0 .whole; fixed = record { bankHigh = omega (arith, f .0 .bankHigh, f .1 .bankSmall); reservedHigh = f .0 .reservedHigh; latched = latches (word w 13) (f .0 .latched); linkBits = f .0 .linkBits; maskLow = f .0 .maskLow }; blank = f .0 .blank },
     record { bankSmall = f .1 .bankSmall; packetSmall = f .1 .packetSmall; resultGood = f .1 .resultGood },
   ),
   λ g. (
-    record { whole = g .0 .whole; bankHigh = omega (arith, g .0 .fixed .bankHigh); reservedHigh = g .0 .fixed .reservedHigh; latched = latched (word w 13) (g .0 .fixed .latched); maskLow = g .0 .fixed .maskLow; blank = g .0 .blank },
+    record { whole = g .0 .whole; bankHigh = omega (arith, g .0 .fixed .bankHigh); reservedHigh = g .0 .fixed .reservedHigh; latched = latched (word w 13) (g .0 .fixed .latched); linkBits = g .0 .fixed .linkBits; maskLow = g .0 .fixed .maskLow; blank = g .0 .blank },
     record { bankSmall = g .1 .bankSmall; packetSmall = g .1 .packetSmall; resultGood = g .1 .resultGood },
   ),
 )

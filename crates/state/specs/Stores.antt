@@ -7,7 +7,7 @@ use native.Mathlib.Omega.{arith}
 use lib.ListN.{set}
 use Rattle.rules.specs.Bits.{bit, lowByte, highByte}
 use Rattle.rules.specs.Chip.{Registers}
-use Rattle.rules.specs.Fields.{setTcr, setEphsr, setRcr, setEcr, setReserved, setStation, setControl, setPacket, setResult, setWaiting, setPointer, setMask, setTable, setBank, setTxEmpty, setOverrun}
+use Rattle.rules.specs.Fields.{setTcr, setEphsr, setRcr, setEcr, setReserved, setStation, setControl, setPacket, setResult, setWaiting, setPointer, setMask, setTable, setBank, setTxEmpty, setOverrun, setLink}
 use Rattle.rules.specs.Registers.{Lanes, low, high, both, mergedAt}
 use Rattle.state.specs.Meaning.{lowAfter, highAfter, Joined}
 use Rattle.state.specs.View.{word, registersIn, figures, withRx, withTx, withCompletion, withMir, noFigures, FixedIn, BlankIn, Latches, Kept}
@@ -68,12 +68,12 @@ high-of old x y small right = omega arith
 pub store-reserved : (v new : ℕ) → v < 256 → (w : List ℕ) → Kept w → new ≡ word w 5 / 256 * 256 + v → Sets (setReserved v) w (set w 5 new)
 unfolding Written
 store-reserved v new small w k = stored 5 new (setReserved v) (λ old. new ≡ old / 256 * 256 + v) (λ a b c d e f g h i j k l m n o p q r s t u x y z a2 b2 c2 d2 e2 f2 g2 h2 fix blank right.
-    record { regs = rw (low-of f v new (omega arith) right) refl; still = refl; kept = record { whole = refl; fixed = record { bankHigh = fix .bankHigh; reservedHigh = high-of f v new (omega arith) right ∙ fix .reservedHigh; latched = fix .latched; maskLow = fix .maskLow }; blank = blank } }) w k
+    record { regs = rw (low-of f v new (omega arith) right) refl; still = refl; kept = record { whole = refl; fixed = record { bankHigh = fix .bankHigh; reservedHigh = high-of f v new (omega arith) right ∙ fix .reservedHigh; latched = fix .latched; linkBits = fix .linkBits; maskLow = fix .maskLow }; blank = blank } }) w k
 
 pub store-bank : (v new : ℕ) → v < 8 → (w : List ℕ) → Kept w → new ≡ word w 7 / 256 * 256 + v → Sets (setBank v) w (set w 7 new)
 unfolding Written
 store-bank v new small w k = stored 7 new (setBank v) (λ old. new ≡ old / 256 * 256 + v) (λ a b c d e f g h i j k l m n o p q r s t u x y z a2 b2 c2 d2 e2 f2 g2 h2 fix blank right.
-    record { regs = rw (low-of h v new (omega arith) right) refl; still = refl; kept = record { whole = refl; fixed = record { bankHigh = omega (arith, fix .bankHigh, right); reservedHigh = fix .reservedHigh; latched = fix .latched; maskLow = fix .maskLow }; blank = blank } }) w k
+    record { regs = rw (low-of h v new (omega arith) right) refl; still = refl; kept = record { whole = refl; fixed = record { bankHigh = omega (arith, fix .bankHigh, right); reservedHigh = fix .reservedHigh; latched = fix .latched; linkBits = fix .linkBits; maskLow = fix .maskLow }; blank = blank } }) w k
 
 pub store-packet : (v new : ℕ) → v < 256 → (w : List ℕ) → Kept w → new ≡ word w 17 / 256 * 256 + v → Sets (setPacket v) w (set w 17 new)
 unfolding Written
@@ -96,7 +96,7 @@ store-mask v new right w k = stored 22 new (setMask v) (λ old. Unit {0}) (λ a 
     record {
       regs = rw above refl;
       still = refl;
-      kept = record { whole = refl; fixed = record { bankHigh = fix .bankHigh; reservedHigh = fix .reservedHigh; latched = fix .latched; maskLow = omega (arith, right) }; blank = blank };
+      kept = record { whole = refl; fixed = record { bankHigh = fix .bankHigh; reservedHigh = fix .reservedHigh; latched = fix .latched; linkBits = fix .linkBits; maskLow = omega (arith, right) }; blank = blank };
     }) w k tt
 
 -- The two latches.
@@ -106,7 +106,17 @@ store-latches new right w k = stored 13 new (λ r. setTxEmpty (bit 2 new) (setOv
     record {
       regs = refl;
       still = refl;
-      kept = record { whole = refl; fixed = record { bankHigh = fix .bankHigh; reservedHigh = fix .reservedHigh; latched = right; maskLow = fix .maskLow }; blank = blank };
+      kept = record { whole = refl; fixed = record { bankHigh = fix .bankHigh; reservedHigh = fix .reservedHigh; latched = right; linkBits = fix .linkBits; maskLow = fix .maskLow }; blank = blank };
+    }) w k tt
+
+-- The link and its change.
+pub store-link : (new : ℕ) → new < 4 → (w : List ℕ) → Kept w → Sets (setLink (record { up = bit 0 new; changed = bit 1 new })) w (set w 15 new)
+unfolding Written
+store-link new small w k = stored 15 new (setLink (record { up = bit 0 new; changed = bit 1 new })) (λ old. Unit {0}) (λ a b c d e f g h i j k l m n o p q r s t u x y z a2 b2 c2 d2 e2 f2 g2 h2 fix blank none.
+    record {
+      regs = refl;
+      still = refl;
+      kept = record { whole = refl; fixed = record { bankHigh = fix .bankHigh; reservedHigh = fix .reservedHigh; latched = fix .latched; linkBits = small; maskLow = fix .maskLow }; blank = blank };
     }) w k tt
 
 -- Two bytes of the station address or of the multicast table.

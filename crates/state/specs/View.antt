@@ -2,7 +2,7 @@
 -- A packet's number is the set of its pages; on the chip of strips (document 02, W3) it is how many pages the packet has.
 use mathlib.Core.Path.{_≡_}
 use mathlib.Core.List.{List, [], _∷_, map}
-use Prim.Native.Nat.{ℕ, suc, _+_, _*_, _/_, _%_}
+use Prim.Native.Nat.{ℕ, suc, _+_, _*_, _/_, _%_, _<_}
 use lib.ListN.{length, getD, take}
 use Rattle.rules.specs.Bits.{bit, flag}
 use Rattle.rules.specs.Lists.{upFrom}
@@ -31,6 +31,7 @@ registersIn w = record {
   pointer = word w 19;
   control = word w 14;
   mask = word w 22 / 256;
+  link = record { up = bit 0 (word w 15); changed = bit 1 (word w 15) };
 }
 
 -- The figures that the words keep beside the registers: how many entries RX, TX and completion have; MIR, which counts the free pages; and which packets are in
@@ -96,27 +97,28 @@ abbrev pub Latches : ℕ → Type 0
 Latches x = x ≡ 4 * flag (bit 2 x) + 16 * flag (bit 4 x)
 
 -- the bits and bytes of a register's word that are fixed: over the words and not over the file, so that a store elsewhere leaves it as it stands
-pub record Fixed (bank reserved latches mask : ℕ) : Type 0 where
+pub record Fixed (bank reserved latches link mask : ℕ) : Type 0 where
   -- 33h, and a bank of 0 to 7
   pub bankHigh : bank / 8 ≡ 0x660
   -- 33h
   pub reservedHigh : reserved / 256 ≡ 0x33
   pub latched : Latches latches
+  -- the link and its change, and no other bit
+  pub linkBits : link < 4
   pub maskLow : mask % 256 ≡ 0
 
 abbrev pub FixedIn : List ℕ → Type 0
-FixedIn w = Fixed (word w 7) (word w 5) (word w 13) (word w 22)
+FixedIn w = Fixed (word w 7) (word w 5) (word w 13) (word w 15) (word w 22)
 
--- and the words that hold nothing: those of command, heads and data, which a read finds, and those of no register, figure or latch
-pub record Blank (w15 w16 w18 w20 w21 : ℕ) : Type 0 where
-  pub none15 : w15 ≡ 0
+-- and the words that hold nothing: those of command, heads and data, which a read finds
+pub record Blank (w16 w18 w20 w21 : ℕ) : Type 0 where
   pub none16 : w16 ≡ 0
   pub none18 : w18 ≡ 0
   pub none20 : w20 ≡ 0
   pub none21 : w21 ≡ 0
 
 abbrev pub BlankIn : List ℕ → Type 0
-BlankIn w = Blank (word w 15) (word w 16) (word w 18) (word w 20) (word w 21)
+BlankIn w = Blank (word w 16) (word w 18) (word w 20) (word w 21)
 
 -- 32 words, with the fixed bytes as they must be
 pub record Kept (w : List ℕ) : Type 0 where

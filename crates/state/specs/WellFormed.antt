@@ -67,9 +67,11 @@ pub record FixedBytes (w : List ℕ) : Type 0 where
   pub reservedHigh : word w 5 / 256 ≡ 0x33
   -- "2 TX EMPTY, latched" and "4 RX_OVRN, latched": no other bit is set
   pub latched : (k : ℕ) → bit k (word w 13) ≡ true → (k ≡ 2) ⊎ (k ≡ 4)
+  -- the link and its change (W8): bits 0 and 1, and no other bit
+  pub linkBits : word w 15 < 4
   -- the mask is a high byte
   pub maskLow : word w 22 % 256 ≡ 0
-  -- the words that hold nothing are 0: those of command, heads and data, which a read finds, and those of no register, figure or latch
+  -- the words that hold nothing are 0: those of command, heads and data, which a read finds
   pub blank : BlankIn w
 
 -- how many pages the sets have, each for itself

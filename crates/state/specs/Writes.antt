@@ -6,24 +6,22 @@ use Prim.Native.Nat.{ℕ, _+_, _*_, _/_, _%_, _<_}
 use native.Mathlib.Omega.{arith}
 use lib.ListN.{set}
 use Rattle.rules.specs.Bits.{bit, clearBit, lowByte}
-use Rattle.rules.specs.Chip.{Registers, Layout, Chip}
-use Rattle.rules.specs.Fields.{setTcr, setEphsr, setRcr, setEcr, setControl, setPointer, inRegisters}
+use Rattle.rules.specs.Chip.{Link, Registers, Layout, Chip}
+use Rattle.rules.specs.Fields.{setTcr, setEphsr, setRcr, setEcr, setControl, setPointer, setLink, inRegisters}
 use Rattle.rules.specs.Answers.{Effect, did, doneWith, refuse}
+use Rattle.rules.specs.Link.{forgetChange}
 use Rattle.rules.specs.Registers.{Register, Lanes, TCR, EPHSR, RCR, ECR, MIR, RESERVED, STATION, CONTROL, PACKET, HEADS, POINTER, TABLE, BANK, UNUSED, ABSENT, low, high, both, taken, forgotten, clearEcr, writeTcr, newRcr, writeRcr, lowOnly, readRegister, writeRegister}
 use Rattle.state.specs.declared.Answer.{Answer}
 use Rattle.state.specs.declared.Answer.the-variants.{Done, NotModelled, ReadOnly}
 use Rattle.state.specs.Meaning.{replyOf, isHigh, Joined}
 use Rattle.state.specs.View.{word, registersIn, viewOf, Kept}
 use Rattle.state.specs.Promise.{Sets, sets-both, sets-as, sets-chip, Does, does-sets}
-use Rattle.state.specs.Stores.{store-tcr, store-ephsr, store-rcr, store-ecr, store-control, store-pointer, store-reserved, store-bank, store-packet, store-station-0, store-station-1, store-station-2, store-table-0, store-table-1, store-table-2, store-table-3}
+use Rattle.state.specs.Stores.{store-tcr, store-ephsr, store-rcr, store-ecr, store-control, store-link, store-pointer, store-reserved, store-bank, store-packet, store-station-0, store-station-1, store-station-2, store-table-0, store-table-1, store-table-2, store-table-3}
+use Rattle.state.specs.Links.{forgets}
 
 -- A register that is a word, or two bytes of a list.
 abbrev pub Plain : Register → ℕ → Type 0
 Plain r at = (p : Lanes) (v new : ℕ) (w : List ℕ) → Kept w → Joined p v (word w at) new → Does (writeRegister r p v) w (Done 0) (set w at new)
-
-pub writes-control : Plain CONTROL 14
-unfolding writeRegister
-writes-control p v new w k joined = does-sets (sets-as (store-control new w k) (ap (λ (x : ℕ). setControl x (registersIn w)) (joined .word)))
 
 pub writes-pointer : Plain POINTER 19
 unfolding writeRegister
@@ -149,6 +147,14 @@ writes-tcr p v new eph w k joined level =
     let first = store-tcr new w k in
     does-sets (sets-as (sets-both first (store-ephsr eph (set w 0 new) (first .kept)))
     (ap (λ (x : ℕ). setEphsr x (setTcr new (registersIn w))) level ∙ by-level new (registersIn w) ∙ ap (λ (x : ℕ). writeTcr x (registersIn w)) (joined .word)))
+
+-- Control, and the change of the link is forgotten.
+pub writes-control : (p : Lanes) (v new kept : ℕ) (w : List ℕ) → Kept w → Joined p v (word w 14) new → kept ≡ word w 15 % 2 → Does (writeRegister CONTROL p v) w (Done 0) (set (set w 14 new) 15 kept)
+unfolding writeRegister
+writes-control p v new kept w k joined right =
+    let first = store-control new w k in
+    does-sets (sets-as (sets-both first (store-link kept (omega (arith, right)) (set w 14 new) (first .kept)))
+    (ap (λ (x : Link). setLink x (setControl new (registersIn w))) (forgets (word w 15) kept right) ∙ ap (λ (x : ℕ). setControl x (forgetChange (registersIn w))) (joined .word)))
 
 -- A read of ECR clears it, and EPHSR bit 12.
 pub reads-ecr : (p : Lanes) (eph : ℕ) (w : List ℕ) → Kept w → eph ≡ clearBit 12 (word w 1) → Does (readRegister ECR p) w (Done (taken p (word w 3))) (set (set w 3 0) 1 eph)

@@ -54,9 +54,14 @@ pub const TE_ENABLE: u16 = 5;
 
 pub const CR_ENABLE: u16 = 6;
 
+pub const LE_ENABLE: u16 = 7;
+
 pub const AUTO_RELEASE: u16 = 11;
 
 pub const RCV_BAD: u16 = 14;
+
+// The link's word: a change of it was seen. (`link.rt` has the link itself, and EPHSR's LINK_OK, which shows it.)
+pub const LINK_CHANGED: u16 = 1;
 
 // The allocation result's bit 7, FAILED, where it stands in the word: above the packet number.
 pub const ALLOCATION_FAILED: u16 = 15;

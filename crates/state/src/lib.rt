@@ -1,12 +1,14 @@
 // The lent state: 32 words of registers, 24 page sets, and 72 bytes of queues. What a step answers, and which bytes of a word an access reaches.
 mod bytes; // bytes.rt: the bytes of a word that an access reads or writes
 pub mod flags; // flags.rt: the bits of the words, by the data sheet's names
+mod link; // link.rt: EPHSR as it is shown
 mod places; // places.rt: which word is which register, and where the queues stand
 
 pub use bytes::is_high;
 pub use bytes::merged;
 pub use bytes::misplaced;
 pub use bytes::taken;
+pub use link::shown_ephsr;
 pub use places::ALL_FREE;
 pub use places::BANK;
 pub use places::COMMAND;
@@ -22,6 +24,7 @@ pub use places::IN_TX;
 pub use places::IN_TX_HIGH;
 pub use places::INTERRUPT;
 pub use places::LATCHES;
+pub use places::LINK;
 pub use places::MIR;
 pub use places::PACKET;
 pub use places::POINTER;

@@ -1,5 +1,5 @@
 // Where in the lent state things stand.
-// A register's word stands at bank * 8 + offset / 2, as a word read gives it. What no word read gives (the queues' counts and bits, latches, the allocation that waits) stands at places of no register.
+// A register's word stands at bank * 8 + offset / 2, as a word read gives it. What no word read gives (the queues' counts and bits, latches, the link, the allocation that waits) stands at places of no register.
 pub const TCR: usize = 0;
 
 pub const EPHSR: usize = 1;
@@ -37,6 +37,9 @@ pub const STATION_2: usize = 12;
 pub const LATCHES: usize = 13;
 
 pub const CONTROL: usize = 14;
+
+// the link, in bit 0, and in bit 1 that a change of it was seen
+pub const LINK: usize = 15;
 
 // the MMU command, which reads 0
 pub const COMMAND: usize = 16;

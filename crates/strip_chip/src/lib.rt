@@ -1,8 +1,9 @@
-// The chip of strips (document 02, W3): every access, arriving frame and finished send, as `chip` has them. Each packet lies in its own strip of 2,048 bytes, and of pages the record
+// The chip of strips (document 02, W3): every access, arriving frame, finished send and link event, as `chip` has them. Each packet lies in its own strip of 2,048 bytes, and of pages the record
 // has only how many each packet has. Each step has two doors: a public entry for any record and memory, by value, which refuses with 16 what is not in order; and the same step below it.
 mod driver; // driver.rt: accesses of the driver to the sixteen I/O addresses
 mod frames; // frames.rt: arriving frames
 mod sends; // sends.rt: finished sends
+mod links; // links.rt: link events
 mod entries; // entries.rt: power-up, and the interrupt line
 mod order; // order.rt: is a record in order, refusal 16
 
@@ -13,6 +14,8 @@ pub use entries::line;
 pub use entries::power_up;
 pub use frames::arrived;
 pub use frames::frame;
+pub use links::link;
+pub use links::linked;
 pub use sends::finished;
 pub use sends::send;
 use state::Answer;

@@ -70,6 +70,7 @@ pub fn answer(
             collisions,
             deferral,
         ),
+        Event::Link(up) => strip_chip::linked(words, counts, queues, memory, up),
         Event::Unknown => Answer::CutShort,
     }
 }

@@ -14,6 +14,7 @@ use state::Answer;
 use state::COMPLETION_COUNT;
 use state::CONTROL;
 use state::EPHSR;
+use state::LINK;
 use state::TCR;
 use state::TX_COUNT;
 use state::flags;
@@ -60,7 +61,8 @@ fn complete(
 {
     let address = address_bits(memory, packet);
     after_send(words, queues, s, good, address);
-    strip_bytes::write_word(memory, packet, Address(0), words[EPHSR]);
+    let status = state::shown_ephsr(words[EPHSR], words[LINK]);
+    strip_bytes::write_word(memory, packet, Address(0), status);
     retire(words, counts, queues, packet, released);
 }
 

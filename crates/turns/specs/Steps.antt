@@ -9,7 +9,7 @@ use Rattle.rules.specs.Chip.{Layout}
 use Rattle.rules.specs.Answers.{Turn}
 use Rattle.rules.specs.Registers.{Access}
 use Rattle.rules.specs.Send.{Send}
-use Rattle.rules.specs.Step.{driver, frame, sent, step}
+use Rattle.rules.specs.Step.{driver, frame, sent, link, step}
 use Rattle.rules.specs.Bench as rules
 use Rattle.receive.specs.Arrivals.{frameOf}
 use Rattle.state.specs.declared.Answer.{Answer}
@@ -31,7 +31,7 @@ module _ {l : Layout} {w s q mem wire : List ℕ} {have : ℕ} (out : List ℕ) 
     held = record { chip = p .ready; room = h .room; few = few };
   }
 
-  -- accesses and frames are lent no output buffer, and the bench's stays
+  -- accesses, frames and link events are lent no output buffer, and the bench's stays
   pub access-turns : (i : Access) {a : Answer} {w′ s′ q′ mem′ : List ℕ} → RightOf l (step (driver i) (viewOf l w s q mem)) a w′ s′ q′ mem′ []
       → TurnsOf l (rules.answer (rules.access i) (holding (viewOf l w s q mem) (take have wire) out)) a w′ s′ q′ mem′ wire have out
   unfolding rules.answer
@@ -42,6 +42,11 @@ module _ {l : Layout} {w s q mem wire : List ℕ} {have : ℕ} (out : List ℕ) 
       → TurnsOf l (rules.answer (rules.frameEnds align) (holding (viewOf l w s q mem) (take have wire) out)) a w′ s′ q′ mem′ wire left out
   unfolding rules.answer
   frame-turns align p = rw (p .1) (turning _ 0 (omega arith) (p .0) refl)
+
+  pub link-turns : (x : ℕ) {a : Answer} {w′ s′ q′ mem′ : List ℕ} → RightOf l (step (link x) (viewOf l w s q mem)) a w′ s′ q′ mem′ []
+      → TurnsOf l (rules.answer (rules.linkSet x) (holding (viewOf l w s q mem) (take have wire) out)) a w′ s′ q′ mem′ wire have out
+  unfolding rules.answer
+  link-turns x p = turning (step (link x) (viewOf l w s q mem)) have (h .few) p refl
 
   -- a send is lent it
   pub send-turns : (x : Send) {a : Answer} {w′ s′ q′ mem′ out′ : List ℕ} → RightOf l (step (sent x out) (viewOf l w s q mem)) a w′ s′ q′ mem′ out′

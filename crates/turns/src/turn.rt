@@ -79,6 +79,7 @@ pub fn answer(
             collisions,
             deferral,
         ),
+        Event::Link(up) => chip::linked(words, sets, queues, memory, up),
         Event::Unknown => Answer::CutShort,
     }
 }

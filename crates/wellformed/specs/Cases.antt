@@ -3,13 +3,14 @@ use mathlib.Core.Path.{_≡_, refl}
 use mathlib.Core.Bool.{Bool, true, false, cond, not}
 use mathlib.Core.List.{List, [], _∷_}
 use Prim.Native.Nat.{ℕ, _*_}
-use lib.Dec.{ltb}
+use lib.Dec.{eqb, ltb}
 use lib.ListN.{length}
 use Rattle.rules.specs.Bits.{bit}
 use Rattle.rules.specs.Lists.{member}
 use Rattle.rules.specs.Chip.{Chip, pagesAt, allocated}
 use Rattle.rules.specs.Fields.{inRegisters}
-use Rattle.rules.specs.Answers.{Effect, Turn, doneWith, refuse, refused, refusedWith}
+use Rattle.rules.specs.Answers.{Effect, Turn, doneWith, did, refuse, refused, refusedWith}
+use Rattle.rules.specs.Link.{relink, plug}
 use Rattle.rules.specs.Mmu.{grant, due, settle, queued, ifIdle, ifHead}
 use Rattle.rules.specs.Data.{rcv, against, oddFixed, past, ifPacket, ifOpen, readData}
 use Rattle.rules.specs.Registers.{Lanes, low, high, both, Register, TCR, EPHSR, RCR, ECR, MIR, RESERVED, STATION, CONTROL, COMMAND, PACKET, HEADS, POINTER, DATA, INTERRUPT, TABLE, BANK, UNUSED, ABSENT, width, clearEcr, lowOnly, readRegister}
@@ -94,6 +95,11 @@ module _ (c : Chip) (P : Effect → Type 0) where
   by-read r2 shown cleared moved BANK p = shown _
   by-read r2 shown cleared moved UNUSED p = shown _
   by-read r2 shown cleared moved ABSENT p = r2
+
+  -- refusal 11, else the link is set
+  pub by-plug : (x : ℕ) → P (refuse 11 c) → ((up : Bool) → P (did (inRegisters (relink up) c))) → P (plug x c)
+  unfolding plug
+  by-plug x r11 h = pick P (ltb 1 x) r11 (h (eqb x 1))
 
 -- The same of turns, beside an output buffer.
 module _ (c : Chip) (out : List ℕ) (P : Turn → Type 0) where

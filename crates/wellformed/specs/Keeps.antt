@@ -1,4 +1,4 @@
--- Every step from a well-formed chip gives a well-formed chip: accesses, frames and sends, refusals too. For any size n.
+-- Every step from a well-formed chip gives a well-formed chip: accesses, frames, sends and the link, refusals too. For any size n.
 use mathlib.Core.Path.{_≡_, refl, ap, sym, _∙_}
 use mathlib.Core.Bool.{Bool, true, false, not, _&&_, true≢false}
 use mathlib.Core.Logic.{inl, inr}
@@ -22,10 +22,10 @@ use Rattle.rules.specs.Data.{readData, writeData}
 use Rattle.rules.specs.Registers.{Lanes, low, high, both, Register, TCR, EPHSR, RCR, ECR, MIR, RESERVED, STATION, CONTROL, COMMAND, PACKET, HEADS, POINTER, DATA, INTERRUPT, TABLE, BANK, UNUSED, ABSENT, bytesOf, merged, newRcr, writeRcr, writeTcr, writeInterrupt, readRegister, writeRegister, registerAt, misplaced, lanesAt, Access, read, write, access}
 use Rattle.rules.specs.Receive.{Frame, Arrival, stored, disabled, notAccepted, tooLong, bad, noRoom, needed, after, verdict, arrive}
 use Rattle.rules.specs.Send.{Send, good, autoRelease, sendHead, finish}
-use Rattle.rules.specs.Step.{Input, driver, frame, sent, serve, stepOf}
+use Rattle.rules.specs.Step.{Input, driver, frame, sent, link, serve, stepOf}
 use Rattle.lists.specs.Bytes.{length-put}
 use Rattle.lists.specs.Facts.{if-not, member-first}
-use Rattle.wellformed.specs.Cases.{pick, pick-by, by-head, by-idle, by-packet, by-tests, by-lanes, by-read, by-send, by-step}
+use Rattle.wellformed.specs.Cases.{pick, pick-by, by-head, by-idle, by-packet, by-tests, by-lanes, by-read, by-plug, by-send, by-step}
 use Rattle.wellformed.specs.Fit.{Fits}
 use Rattle.wellformed.specs.Frames.{storable, needs-one, needs-seven}
 use Rattle.wellformed.specs.Pool.{has-small, number-free, number-not-rx, number-not-tx, given, rx-popped, rx-joined, tx-popped, tx-joined, completion-joined, completion-popped, tx-and-completion-emptied, with-bank, with-packet, with-result, reset-numbers, beside, emptied}
@@ -220,6 +220,7 @@ module _ (n : ℕ) (c : Chip) (w : Fits n c) where
   keeps-serve (driver a) = keeps-access n c w a
   keeps-serve (frame f) = keeps-arrive f
   keeps-serve (sent s out) = keeps-send s out
+  keeps-serve (link x) = by-plug c (Kept n) x w (λ up. w)
 
   -- Every step.
   pub keeps : (i : Input) → Turned (stepOf n i c)

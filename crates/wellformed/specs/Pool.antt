@@ -228,7 +228,7 @@ module _ {n : ℕ} {r : Numbers} (g : GoodNumbers n r) where
   pub with-result : (x : ℕ) → (x < n) ⊎ (x ≡ 0x80) → (waiting : ℕ) → GoodNumbers n (record { bank = r .bank; packet = r .packet; result = x; waiting = waiting })
   with-result x h waiting = record { bankSmall = g .bankSmall; packetSmall = g .packetSmall; resultGood = h }
 
-pub reset-numbers : (n : ℕ) → GoodNumbers n (resetRegisters [] .numbers)
+pub reset-numbers : (n : ℕ) → GoodNumbers n (resetRegisters [] false .numbers)
 reset-numbers n = record { bankSmall = omega arith; packetSmall = omega arith; resultGood = inr refl }
 
 -- Other registers beside the same pool.

@@ -105,6 +105,7 @@ impl<L: Layout> BenchOn<L> {
             5 => self.gathered.add(first, &record[2..]).map(|()| 0),
             6 => self.end_frame(first),
             7 => self.end_send(first, second, third),
+            8 => self.chip.plug(first).map(|()| 0),
             _ => Err(Refusal::BadRecord),
         }
     }

@@ -2,6 +2,7 @@
 
 use crate::address::MacAddress;
 use crate::fifo::Fifo;
+use crate::link::Link;
 use crate::memory::{Layout, PacketAddress, PacketNumber, Paged, Strips};
 
 /// Bits of TCR that have a rule.
@@ -26,6 +27,8 @@ pub mod ephsr {
     pub const LATE_COLLISION: u16 = 1 << 9;
     pub const LOST_CARRIER: u16 = 1 << 10;
     pub const COUNTER_ROLL: u16 = 1 << 12;
+    /// Shown, and never stored.
+    pub const LINK: u16 = 1 << 14;
     pub const UNDERRUN: u16 = 1 << 15;
 
     /// "EPHSR 15, 10, 9, 5, 4": what a failed send leaves.
@@ -46,6 +49,7 @@ pub mod rcr {
 pub mod control {
     pub const TX_ERROR_ENABLE: u16 = 1 << 5;
     pub const COUNTER_ENABLE: u16 = 1 << 6;
+    pub const LINK_ENABLE: u16 = 1 << 7;
     pub const AUTO_RELEASE: u16 = 1 << 11;
     pub const RECEIVE_BAD: u16 = 1 << 14;
 }
@@ -101,6 +105,7 @@ impl Pointer {
 pub struct Registers {
     pub bank: u8,
     pub tcr: u16,
+    /// All of EPHSR but the link, which `shown_ephsr` has.
     pub ephsr: u16,
     pub rcr: u16,
     pub ecr: u16,
@@ -120,6 +125,17 @@ pub struct Registers {
     pub rx_overrun: bool,
     pub mask: u8,
     pub multicast: [u8; 8],
+    pub link: Link,
+}
+
+impl Registers {
+    /// "EPHSR bit 14 shows it": the link stands for the bit that is stored.
+    pub fn shown_ephsr(&self) -> u16 {
+        match self.link.up {
+            true => self.ephsr | ephsr::LINK,
+            false => self.ephsr & !ephsr::LINK,
+        }
+    }
 }
 
 impl Default for Registers {
@@ -142,6 +158,7 @@ impl Default for Registers {
             rx_overrun: false,
             mask: 0,
             multicast: [0; 8],
+            link: Link::default(),
         }
     }
 }
@@ -166,13 +183,14 @@ pub type StripChip = ChipOn<Strips>;
 
 impl<L: Layout> ChipOn<L> {
     /// "resets everything except the station address and packet memory; RCR
-    /// then reads 8000h".
+    /// then reads 8000h"; "keeps the link and forgets the change".
     pub fn soft_reset(&mut self) {
         self.packets.release_all();
         self.empty_fifos();
         self.registers = Registers {
             rcr: rcr::SOFT_RESET,
             station: self.registers.station,
+            link: self.registers.link.without_change(),
             ..Registers::default()
         };
     }
@@ -215,12 +233,19 @@ impl<L: Layout> ChipOn<L> {
     }
 
     /// "EPH is (EPHSR bit 12 and control bit 6) or (any of EPHSR 15, 10, 9, 5,
-    /// 4 while bit 0 is clear, and control bit 5)."
+    /// 4 while bit 0 is clear, and control bit 5)", and by "a third term" (a
+    /// change of the link and control bit 7).
     fn eph(&self) -> bool {
-        let Registers { ephsr, control, .. } = self.registers;
+        let Registers {
+            ephsr,
+            control,
+            link,
+            ..
+        } = self.registers;
         let rolled = ephsr & ephsr::COUNTER_ROLL != 0;
         let failed = ephsr & ephsr::ERRORS != 0 && ephsr & ephsr::TX_SUC == 0;
         rolled && control & control::COUNTER_ENABLE != 0
             || failed && control & control::TX_ERROR_ENABLE != 0
+            || link.changed && control & control::LINK_ENABLE != 0
     }
 }

@@ -11,6 +11,7 @@ pub mod crc;
 pub mod fifo;
 pub mod frame;
 pub mod generator;
+pub mod link;
 pub mod memory;
 pub mod mmu;
 pub mod places;

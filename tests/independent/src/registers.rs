@@ -181,6 +181,7 @@ impl<L: Layout> ChipOn<L> {
             Register::Command => return self.command(lanes.merge(0) as u8),
             Register::Tcr => self.write_tcr(lanes),
             Register::Rcr => self.write_rcr(lanes),
+            Register::Control => self.write_control(lanes),
             Register::Interrupt => self.write_interrupt(lanes),
             _ => self.store(register, lanes),
         }
@@ -193,7 +194,7 @@ impl<L: Layout> ChipOn<L> {
         let pair = u16::from_le_bytes;
         match register {
             Register::Tcr => now.tcr,
-            Register::Ephsr => now.ephsr,
+            Register::Ephsr => now.shown_ephsr(),
             Register::Rcr => now.rcr,
             Register::Ecr => now.ecr,
             Register::Mir => pair([PAGES as u8, self.packets.free_pages() as u8]),
@@ -221,7 +222,6 @@ impl<L: Layout> ChipOn<L> {
         match register {
             Register::Reserved => now.reserved = lanes.merge(0) as u8,
             Register::Station(at) => lanes.merge_pair(&mut now.station.0[at..]),
-            Register::Control => now.control = lanes.merge(now.control),
             // "packet number (value mod 64)"
             Register::Packet => now.packet_number = lanes.merge(0) as u8 % 64,
             Register::Pointer => now.pointer = Pointer(lanes.merge(now.pointer.0)),
@@ -251,6 +251,13 @@ impl<L: Layout> ChipOn<L> {
         } else {
             self.registers.rcr = new;
         }
+    }
+
+    /// A change of the link is remembered "until a write to either control byte".
+    fn write_control(&mut self, lanes: Lanes) {
+        let now = &mut self.registers;
+        now.control = lanes.merge(now.control);
+        now.link = now.link.without_change();
     }
 
     fn write_interrupt(&mut self, lanes: Lanes) {

@@ -315,9 +315,9 @@ impl<L: Layout> ChipOn<L> {
         }
     }
 
-    /// "EPHSR is written to addresses 0 and 1."
+    /// "EPHSR is written to addresses 0 and 1", with the link in bit 14.
     fn write_status(&mut self, packet: PacketNumber) {
         self.packets
-            .set_word(packet, STATUS_AT, self.registers.ephsr);
+            .set_word(packet, STATUS_AT, self.registers.shown_ephsr());
     }
 }

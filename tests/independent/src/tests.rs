@@ -3,6 +3,7 @@
 mod counts;
 mod crc;
 mod fcs;
+mod link;
 mod streams;
 mod strips;
 mod waiting;
@@ -373,7 +374,7 @@ fn records_outside_the_limits() {
     let mut bench = Bench::default();
     let mut answer = |bytes: &[u8]| numbers(bench.step(&record(bytes)));
     assert_eq!(answer(&[0]), (17, 0));
-    assert_eq!(answer(&[8]), (17, 0));
+    assert_eq!(answer(&[9]), (17, 0));
     assert_eq!(answer(&[5, 0]), (11, 0));
     assert_eq!(answer(&[5, 7]), (11, 0));
     for _ in 0..341 {

@@ -17,7 +17,8 @@ pub fn sum(numbers: impl IntoIterator<Item = u32>) -> u32 {
 }
 
 /// Every register, in the order of the banks; behind them what has no offset of
-/// its own: the two latches, and the pages that a request waits for, or 0.
+/// its own: the two latches, the pages that a request waits for, or 0, and the
+/// link with its change. EPHSR is without the link.
 pub fn registers(now: &Registers) -> Vec<u32> {
     let result = now.result.map_or(0x80, PacketNumber::get);
     let words = [now.tcr, now.ephsr, now.rcr, now.ecr].map(u32::from);
@@ -33,6 +34,7 @@ pub fn registers(now: &Registers) -> Vec<u32> {
     all.extend(now.multicast.map(u32::from));
     all.extend(latches);
     all.push(now.waiting.unwrap_or(0) as u32);
+    all.extend([now.link.up, now.link.changed].map(u32::from));
     all
 }
 

@@ -28,10 +28,11 @@ fn every_cell_is_reached() {
     assert!(missing.is_empty(), "not reached: {missing:#?}");
 }
 
-/// The cells of requests that wait, of sends refused for their count or beside
-/// it, and of check sequences that arrive or are appended.
-const STEERED_INTO: [&str; 5] = [
+/// The cells of requests that wait, of the link, of sends refused for their count
+/// or beside it, and of check sequences that arrive or are appended.
+const STEERED_INTO: [&str; 6] = [
     "waiting request",
+    "link",
     "byte count",
     "| send 1",
     "check sequence",

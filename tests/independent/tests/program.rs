@@ -80,7 +80,7 @@ fn a_tail_has_the_line_as_it_is_then() {
     let records: [[u8; 8]; 3] = [
         [3, 0xe, 2, 0, 0, 0, 0, 0],
         [3, 0xd, 4, 0, 0, 0, 0, 0],
-        [8, 0xd, 0, 0, 0, 0, 0, 0],
+        [9, 0xd, 0, 0, 0, 0, 0, 0],
     ];
     for tail in 1..8 {
         let input = [records.as_flattened(), &[3, 0xd, 0, 0, 0, 0, 0][..tail]].concat();

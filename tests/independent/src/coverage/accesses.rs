@@ -98,6 +98,8 @@ fn count_reset(tables: &mut Tables, before: &Chip) {
         ("RX_OVRN", now.rx_overrun),
         ("mask", now.mask != 0),
         ("table", now.multicast != fresh.multicast),
+        ("link up", now.link.up),
+        ("link changed", now.link.changed),
         ("pages", before.packets.free_pages() < 24),
         ("RX", !before.rx.is_empty()),
         ("TX", !before.tx.is_empty()),

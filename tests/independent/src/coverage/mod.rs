@@ -7,6 +7,7 @@ mod commands;
 mod counts;
 mod data;
 mod frames;
+mod link;
 mod sends;
 mod states;
 mod strips;
@@ -41,6 +42,7 @@ pub struct Coverage {
     bench: Bench,
     requests: waiting::History,
     counts: counts::History,
+    link: link::History,
     strips: strips::History,
     tables: Tables,
 }
@@ -51,6 +53,7 @@ impl Coverage {
         self.bench = Bench::default();
         self.requests = waiting::History::default();
         self.counts = counts::History::default();
+        self.link = link::History::default();
         self.strips = strips::History::default();
         for record in records {
             self.step(record);
@@ -77,6 +80,7 @@ impl Coverage {
         }
         counts::count(tables, &mut self.counts, &seen);
         waiting::count(tables, &mut self.requests, &seen);
+        link::count(tables, &mut self.link, &seen);
         strips::count(tables, &mut self.strips, &seen);
         states::count(tables, &self.bench.chip);
     }
@@ -104,10 +108,10 @@ fn answer_name(answer: Answer) -> String {
 
 fn kind_name(kind: u8) -> String {
     let names = ["read byte", "read word", "write byte", "write word"];
-    let events = ["wire bytes", "frame ends", "send"];
+    let events = ["wire bytes", "frame ends", "send", "link"];
     match kind {
         1..=4 => format!("{kind} {}", names[usize::from(kind - 1)]),
-        5..=7 => format!("{kind} {}", events[usize::from(kind - 5)]),
+        5..=8 => format!("{kind} {}", events[usize::from(kind - 5)]),
         _ => "unknown kind".into(),
     }
 }

@@ -212,7 +212,7 @@ fn behind(answer: Answer, output: &[u8]) -> &[u8] {
 }
 
 fn count_ephsr(tables: &mut Tables, seen: &Seen) {
-    let ephsr = seen.after.chip.registers.ephsr;
+    let ephsr = seen.after.chip.registers.shown_ephsr();
     for bit in (0..16).filter(|bit| ephsr >> bit & 1 != 0) {
         tables.count(Part::Ephsr, format!("bit {bit:2}"), verdict_name(seen));
     }

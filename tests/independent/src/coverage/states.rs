@@ -24,6 +24,8 @@ fn count_states(tables: &mut Tables, chip: &Chip) {
             "EPHSR bit 12 set",
             chip.registers.ephsr & ephsr::COUNTER_ROLL != 0,
         ),
+        ("link up", chip.registers.link.up),
+        ("link changed", chip.registers.link.changed),
         ("RX_ABORT set", chip.registers.rcr & 1 != 0),
         ("RX_OVRN set", chip.registers.rx_overrun),
         ("EPH in the status", status & interrupt::EPH != 0),
@@ -54,20 +56,16 @@ fn count_line(tables: &mut Tables, chip: &Chip) {
     }
 }
 
-/// Each bit of EPHSR that EPH looks at, alone, under each pair of control bits.
+/// Each bit of EPHSR that EPH looks at, or a change of the link, alone, under each
+/// choice of control bits.
 fn count_eph(tables: &mut Tables, chip: &Chip) {
     let now = &chip.registers;
-    let column = match (
-        now.control & control::TX_ERROR_ENABLE != 0,
-        now.control & control::COUNTER_ENABLE != 0,
-    ) {
-        (true, true) => "5 and 6",
-        (true, false) => "5",
-        (false, true) => "6",
-        (false, false) => "neither",
-    };
     let looked_at = ephsr::ERRORS | ephsr::TX_SUC | ephsr::COUNTER_ROLL;
     let row = match now.ephsr & looked_at {
+        0 if now.link.changed => "link changed",
+        ephsr::TX_SUC if now.link.changed => "link changed, beside bit 0",
+        _ if now.link.changed => return,
+        0 if now.link.up => "link up, no change",
         ephsr::UNDERRUN => "bit 15",
         ephsr::COUNTER_ROLL => "bit 12",
         ephsr::LOST_CARRIER => "bit 10",
@@ -78,7 +76,26 @@ fn count_eph(tables: &mut Tables, chip: &Chip) {
         bits if bits == ephsr::COUNTER_ROLL | ephsr::TX_SUC => "bit 12 beside bit 0",
         _ => return,
     };
-    tables.count(Part::Eph, row, column);
+    tables.count(Part::Eph, row, enabled_name(now.control));
+}
+
+/// Which of the control bits are set that let EPH be raised.
+fn enabled_name(control: u16) -> &'static str {
+    let enabled = [
+        control::TX_ERROR_ENABLE,
+        control::COUNTER_ENABLE,
+        control::LINK_ENABLE,
+    ];
+    match enabled.map(|bit| control & bit != 0) {
+        [false, false, false] => "none",
+        [true, false, false] => "5",
+        [false, true, false] => "6",
+        [false, false, true] => "7",
+        [true, true, false] => "5 and 6",
+        [true, false, true] => "5 and 7",
+        [false, true, true] => "6 and 7",
+        [true, true, true] => "5, 6 and 7",
+    }
 }
 
 fn names_freed(chip: &Chip) -> bool {

@@ -105,11 +105,23 @@ pub fn eph(script: &mut Script) {
     }
 }
 
-/// The status under each pair of control bits.
+/// The status under each choice of control bits.
 pub fn under_controls(script: &mut Script) {
-    let (error, counter) = (control::TX_ERROR_ENABLE, control::COUNTER_ENABLE);
-    for bits in [0, error, counter, error | counter] {
+    for bits in enabled() {
         script.put(CONTROL, control::RECEIVE_BAD | bits);
         script.get(INTERRUPT);
     }
+}
+
+/// Each choice of the control bits that let EPH be raised.
+pub fn enabled() -> impl Iterator<Item = u16> {
+    let bits = [
+        control::TX_ERROR_ENABLE,
+        control::COUNTER_ENABLE,
+        control::LINK_ENABLE,
+    ];
+    (0..8).map(move |choice| {
+        let chosen = (0..3).filter(|at| choice >> at & 1 != 0);
+        chosen.fold(0, |word, at| word | bits[at])
+    })
 }

@@ -8,6 +8,7 @@ mod counters;
 mod data;
 mod frames;
 mod interrupts;
+mod link;
 mod registers;
 mod resets;
 mod script;
@@ -16,6 +17,7 @@ mod waiting;
 
 use crate::bench::Record;
 use crate::chip::{control, tcr};
+use crate::link::Link;
 use script::Script;
 use waiting::Giver;
 
@@ -85,7 +87,34 @@ const SCENARIOS: &[(&str, Scenario)] = &[
         checks::appended(script, tcr::PAD_EN)
     }),
     ("echo", checks::echoed),
+    ("link-down", |script| link::meetings(script, DOWN)),
+    ("link-up", |script| link::meetings(script, UP)),
+    ("link-down-changed", |script| {
+        link::meetings(script, after_change(DOWN))
+    }),
+    ("link-up-changed", |script| {
+        link::meetings(script, after_change(UP))
+    }),
+    ("link-raised", link::raised),
+    ("link-enabled", link::enabled_by),
+    ("link-shown", link::shown),
 ];
+
+const DOWN: Link = Link {
+    up: false,
+    changed: false,
+};
+const UP: Link = Link {
+    up: true,
+    changed: false,
+};
+
+fn after_change(link: Link) -> Link {
+    Link {
+        changed: true,
+        ..link
+    }
+}
 
 /// Every stream by its name.
 pub fn streams() -> impl Iterator<Item = (&'static str, Vec<Record>)> {

@@ -58,6 +58,8 @@ fn set_registers(script: &mut Script) {
     script.put(POINTER, Pointer::AUTO_INCREMENT | Pointer::READ | 0x1a34);
     script.mask(0xd7);
     script.choose(9);
+    script.plug(0);
+    script.plug(1);
 }
 
 /// Every register whose reset value shows.

@@ -218,6 +218,11 @@ impl Script {
         let _ = self.say(&[7, outcome, collisions, deferral]);
     }
 
+    /// A link event.
+    pub fn plug(&mut self, state: u8) {
+        let _ = self.say(&[8, state]);
+    }
+
     /// Sets TXENA and the other bits of TCR.
     pub fn enable(&mut self, bits: u16) {
         self.put(TCR, bits | crate::chip::tcr::TXENA);

@@ -4,6 +4,7 @@
 mod checks;
 mod counts;
 mod driver;
+mod link;
 mod probe;
 mod receive;
 mod setup;
@@ -38,7 +39,7 @@ pub fn tail(seed: u64) -> [u8; RECORD_SIZE - 1] {
     let mut random = Random::new(!seed);
     let mut bytes = [0; RECORD_SIZE - 1];
     bytes.fill_with(|| random.byte());
-    bytes[0] = random.between(1, 7) as u8;
+    bytes[0] = random.between(1, 8) as u8;
     bytes
 }
 
@@ -63,6 +64,7 @@ const SCENES: &[Scene] = &[
     (4, Generator::wrap_pointer),
     (14, Generator::shuffle_packets),
     (32, Generator::wait_for_pages),
+    (24, Generator::move_cable),
     (14, Generator::tidy),
     (14, Generator::poke_registers),
     (12, Generator::sweep_bank),

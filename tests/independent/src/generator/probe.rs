@@ -253,7 +253,7 @@ impl Generator {
     pub fn odd_record(&mut self) {
         match self.random.between(0, 5) {
             0..=1 => {
-                let kind = self.random.pick(&[0, 8, 9, 10, 128, 255]);
+                let kind = self.random.pick(&[0, 9, 10, 11, 128, 255]);
                 self.say(&[kind]);
             }
             2 => self.wrong_count(),
@@ -268,7 +268,7 @@ impl Generator {
             let mut record = [0; 8];
             record.fill_with(|| self.random.byte());
             if !self.random.one_in(10) {
-                record[0] = self.random.between(1, 7) as u8;
+                record[0] = self.random.between(1, 8) as u8;
                 record[1] %= 18;
             }
             self.emit(record);

@@ -120,6 +120,9 @@ impl Generator {
                 // accesses may come between a frame's bytes
                 self.look_around();
             }
+            if self.random.one_in(150) {
+                self.plug(); // and a cable may be pulled
+            }
         }
     }
 

@@ -115,6 +115,7 @@ impl Generator {
         let chances = [
             (control::TX_ERROR_ENABLE, 2),
             (control::COUNTER_ENABLE, 2),
+            (control::LINK_ENABLE, 3),
             (control::AUTO_RELEASE, 3),
         ];
         let mut value = self.bits(&chances, u16::MAX);
@@ -188,6 +189,7 @@ impl Generator {
             // bit 15 is still set, so a low byte resets what came since
             self.set_control();
             self.allocate();
+            self.plug();
             self.select(RCR.0);
             let low = self.random.byte();
             self.write_byte(RCR.1, low);

@@ -276,7 +276,7 @@ fn a_grant_changes_no_byte() {
     assert_eq!(chip.packets.bytes(), before);
 }
 
-/// The last number of the registers' line.
+/// The last number of the registers' line but for the link's two.
 #[test]
 fn a_waiting_request_is_told() {
     let mut records = vec![record(&[3, 0xe, 2])];
@@ -284,5 +284,5 @@ fn a_waiting_request_is_told() {
     let told = tell(&records);
     let registers = told.lines().nth(records.len()).unwrap();
     assert!(registers.starts_with("registers 2 "));
-    assert!(registers.ends_with(" 1 0 5"), "{registers}");
+    assert!(registers.ends_with(" 1 0 5 0 0"), "{registers}");
 }

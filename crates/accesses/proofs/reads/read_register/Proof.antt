@@ -54,11 +54,12 @@ plain s k e d = reached s k e (λ l n mem h. does-makes d (sound s h) mem)
 -- the keys of the arms, from the last to the first
 abbrev arms : List (List ℕ)
 arms =
-    (1 ∷ 5 ∷ 11 ∷ 17 ∷ 25 ∷ 27 ∷ [])
+    (5 ∷ 11 ∷ 17 ∷ 25 ∷ 27 ∷ [])
     ∷ (0 ∷ 2 ∷ 10 ∷ 12 ∷ 14 ∷ 16 ∷ 19 ∷ 24 ∷ 26 ∷ [])
     ∷ (9 ∷ 29 ∷ 33 ∷ 35 ∷ 37 ∷ [])
     ∷ (6 ∷ 8 ∷ 13 ∷ 28 ∷ 30 ∷ 32 ∷ 34 ∷ 36 ∷ 38 ∷ [])
     ∷ (7 ∷ 15 ∷ 23 ∷ 31 ∷ 39 ∷ 47 ∷ 55 ∷ 63 ∷ [])
+    ∷ (1 ∷ [])
     ∷ (22 ∷ [])
     ∷ (18 ∷ [])
     ∷ (4 ∷ [])
@@ -69,7 +70,7 @@ unfolding allBelow
 shared-slice-read-gives-3 c =
     let m = c .before in
     let s = m .before .before .before in
-    let k = key-below 32 (0 ∷ 2 ∷ 10 ∷ 12 ∷ 14 ∷ 16 ∷ 19 ∷ 24 ∷ 26 ∷ []) _ refl (m .match .keys7) in
+    let k = key-below 32 (0 ∷ 2 ∷ 10 ∷ 12 ∷ 14 ∷ 16 ∷ 19 ∷ 24 ∷ 26 ∷ []) _ refl (m .match .keys8) in
     omega (arith)
 
 shared-slice-read-gives-4 : tie.Need-shared-slice-read-gives-4
@@ -77,7 +78,7 @@ unfolding allBelow
 shared-slice-read-gives-4 c =
     let m = c .before in
     let s = m .before .before .before in
-    let k = key-below 32 (1 ∷ 5 ∷ 11 ∷ 17 ∷ 25 ∷ 27 ∷ []) _ refl (m .match .keys8) in
+    let k = key-below 32 (5 ∷ 11 ∷ 17 ∷ 25 ∷ 27 ∷ []) _ refl (m .match .keys9) in
     omega (arith)
 
 -- not modelled
@@ -86,14 +87,14 @@ unfolding registerIn registerAt
 returns c =
     let s = c .before .before .before in
     let none = reads-absent (lanes s) (words s) (s .pre .0) in
-    plain s _ refl (by-key (λ (k : ℕ). Does (readRegister (registerIn k) (lanes s)) (words s) NotModelled (words s)) (6 ∷ 8 ∷ 13 ∷ 28 ∷ 30 ∷ 32 ∷ 34 ∷ 36 ∷ 38 ∷ []) _ (c .match .keys5) none none none none none none none none none)
+    plain s _ refl (by-key (λ (k : ℕ). Does (readRegister (registerIn k) (lanes s)) (words s) NotModelled (words s)) (6 ∷ 8 ∷ 13 ∷ 28 ∷ 30 ∷ 32 ∷ 34 ∷ 36 ∷ 38 ∷ []) _ (c .match .keys6) none none none none none none none none none)
 
 returns-2 : tie.Need-returns-2
 unfolding registerIn registerAt
 returns-2 c =
     let s = c .before .before .before in
     let none = reads-absent (lanes s) (words s) (s .pre .0) in
-    plain s _ refl (by-key (λ (k : ℕ). Does (readRegister (registerIn k) (lanes s)) (words s) NotModelled (words s)) (9 ∷ 29 ∷ 33 ∷ 35 ∷ 37 ∷ []) _ (c .match .keys6) none none none none none)
+    plain s _ refl (by-key (λ (k : ℕ). Does (readRegister (registerIn k) (lanes s)) (words s) NotModelled (words s)) (9 ∷ 29 ∷ 33 ∷ 35 ∷ 37 ∷ []) _ (c .match .keys7) none none none none none)
 
 -- MIR, and what is found for each read
 returns-3 : tie.Need-returns-3
@@ -117,29 +118,26 @@ returns-5 c =
     let s = m .before .before .before in
     λ l n mem h. answered (c .gives3 .ensures) (reached s 22 (m .match .keys3) (λ i k x y. reads-interrupt (lanes s) _ _ _ (sound s y) _ (c .before .interrupt .ensures) x) l n mem h)
 
--- the bank
+-- EPHSR, which shows the link
 returns-6 : tie.Need-returns-6
 unfolding registerIn registerAt
 returns-6 c =
     let m = c .before .before in
     let s = m .before .before .before in
-    let bank = reads-bank (lanes s) (words s) (s .pre .0) in
-    let shown = by-key (λ (k : ℕ). Shows (registerIn k) (lanes s) (words s) (word (words s) 7)) (7 ∷ 15 ∷ 23 ∷ 31 ∷ 39 ∷ 47 ∷ 55 ∷ 63 ∷ []) _ (m .match .keys4) bank bank bank bank bank bank bank bank in
-    λ l n mem h. answered (c .gives4 .ensures) (plain s _ refl shown l n mem h)
+    let shown = subst (Shows rules.EPHSR (lanes s) (words s)) (sym (c .before .ephsr .ensures)) (reads-ephsr (lanes s) (words s) (s .pre .0)) in
+    λ l n mem h. answered (c .gives4 .ensures) (plain s 1 (m .match .keys4) shown l n mem h)
 
--- the words
+-- the bank
 returns-7 : tie.Need-returns-7
 unfolding registerIn registerAt
 returns-7 c =
     let m = c .before .before in
     let s = m .before .before .before in
-    let p = lanes s in
-    let w = words s in
-    let k = s .pre .0 in
-    let shown = by-key (λ (j : ℕ). Shows (registerIn j) p w (word w j)) (0 ∷ 2 ∷ 10 ∷ 12 ∷ 14 ∷ 16 ∷ 19 ∷ 24 ∷ 26 ∷ []) _ (m .match .keys7)
-    (reads-tcr p w k) (reads-rcr p w k) (reads-station-0 p w k) (reads-station-2 p w k) (reads-control p w k) (reads-command p w k) (reads-pointer p w k) (reads-table-0 p w k) (reads-table-2 p w k) in
+    let bank = reads-bank (lanes s) (words s) (s .pre .0) in
+    let shown = by-key (λ (k : ℕ). Shows (registerIn k) (lanes s) (words s) (word (words s) 7)) (7 ∷ 15 ∷ 23 ∷ 31 ∷ 39 ∷ 47 ∷ 55 ∷ 63 ∷ []) _ (m .match .keys5) bank bank bank bank bank bank bank bank in
     λ l n mem h. answered (c .gives5 .ensures) (plain s _ refl shown l n mem h)
 
+-- the words
 returns-8 : tie.Need-returns-8
 unfolding registerIn registerAt
 returns-8 c =
@@ -148,18 +146,30 @@ returns-8 c =
     let p = lanes s in
     let w = words s in
     let k = s .pre .0 in
-    let shown = by-key (λ (j : ℕ). Shows (registerIn j) p w (word w j)) (1 ∷ 5 ∷ 11 ∷ 17 ∷ 25 ∷ 27 ∷ []) _ (m .match .keys8)
-    (reads-ephsr p w k) (reads-reserved p w k) (reads-station-1 p w k) (reads-packet p w k) (reads-table-1 p w k) (reads-table-3 p w k) in
+    let shown = by-key (λ (j : ℕ). Shows (registerIn j) p w (word w j)) (0 ∷ 2 ∷ 10 ∷ 12 ∷ 14 ∷ 16 ∷ 19 ∷ 24 ∷ 26 ∷ []) _ (m .match .keys8)
+    (reads-tcr p w k) (reads-rcr p w k) (reads-station-0 p w k) (reads-station-2 p w k) (reads-control p w k) (reads-command p w k) (reads-pointer p w k) (reads-table-0 p w k) (reads-table-2 p w k) in
     λ l n mem h. answered (c .gives6 .ensures) (plain s _ refl shown l n mem h)
 
--- banks 5 to 7
 returns-9 : tie.Need-returns-9
-unfolding passed inSome member
+unfolding registerIn registerAt
 returns-9 c =
+    let m = c .before .before in
+    let s = m .before .before .before in
+    let p = lanes s in
+    let w = words s in
+    let k = s .pre .0 in
+    let shown = by-key (λ (j : ℕ). Shows (registerIn j) p w (word w j)) (5 ∷ 11 ∷ 17 ∷ 25 ∷ 27 ∷ []) _ (m .match .keys9)
+    (reads-reserved p w k) (reads-station-1 p w k) (reads-packet p w k) (reads-table-1 p w k) (reads-table-3 p w k) in
+    λ l n mem h. answered (c .gives7 .ensures) (plain s _ refl shown l n mem h)
+
+-- banks 5 to 7
+returns-10 : tie.Need-returns-10
+unfolding passed inSome member
+returns-10 c =
     let m = c .before in
     let s = m .before .before .before in
     let unused = unused-left ((3 ∷ []) ∷ arms) refl (s .args .at) (omega (arith, s .pre .3, place-below _ _ (words s) (s .pre .0) (s .pre .2))) (s .pre .4) (m .match .rest, s .pre .5) in
-    λ l n mem h. answered (c .gives7 .ensures) (plain s _ refl (subst (λ (x : rules.Register). Shows x (lanes s) (words s) 0x3333) (sym unused) (reads-unused (lanes s) (words s) (s .pre .0))) l n mem h)
+    λ l n mem h. answered (c .gives8 .ensures) (plain s _ refl (subst (λ (x : rules.Register). Shows x (lanes s) (words s) 0x3333) (sym unused) (reads-unused (lanes s) (words s) (s .pre .0))) l n mem h)
 
 pub read-register-spec : {M : Type 1} → statement M
 read-register-spec =
@@ -170,6 +180,8 @@ read-register-spec =
     (λ c κs. let s = c .before .before .before in (s .pre .0, s .pre .1))
     (λ c κs. search needs)
     (λ c κs. let s = c .before .before .before in (s .pre .0, (queues s, s .pre .1)))
+    (λ c κs. search needs)
+    (λ c κs. c .before .before .before .pre .0)
     (λ c κs. search needs)
     (λ c. search needs)
     (λ c κs. search needs)
@@ -188,4 +200,5 @@ read-register-spec =
     returns-6
     returns-7
     returns-8
-    returns-9)
+    returns-9
+    returns-10)

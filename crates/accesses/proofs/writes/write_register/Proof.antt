@@ -18,7 +18,7 @@ use Rattle.state.specs.View.{figures, viewOf}
 use Rattle.state.specs.Keys.{by-key, key-below, passed, inSome}
 use Rattle.state.specs.Promise.{PagesIn, SoundOf, MakesOf, Does, does-makes}
 use Rattle.state.specs.Laws.{registerIn}
-use Rattle.state.specs.Writes.{Plain, writes-control, writes-pointer, writes-station-0, writes-station-1, writes-station-2, writes-table-0, writes-table-1, writes-table-2, writes-table-3, writes-ephsr, writes-ecr, writes-mir, writes-heads, writes-unused, writes-absent}
+use Rattle.state.specs.Writes.{Plain, writes-pointer, writes-station-0, writes-station-1, writes-station-2, writes-table-0, writes-table-1, writes-table-2, writes-table-3, writes-ephsr, writes-ecr, writes-mir, writes-heads, writes-unused, writes-absent}
 use Rattle.accesses.specs.Reach.{place-below, write-there}
 use Rattle.accesses.specs.Places.{unused-left}
 use Rattle.accesses.proofs.writes.write_register.Statement.{statement}
@@ -57,7 +57,7 @@ plain s k e d = reached s k e (λ l n mem h. does-makes d (sound s h) mem)
 abbrev arms : List (List ℕ)
 arms =
     (11 ∷ 25 ∷ 27 ∷ [])
-    ∷ (10 ∷ 12 ∷ 14 ∷ 19 ∷ 24 ∷ 26 ∷ [])
+    ∷ (10 ∷ 12 ∷ 19 ∷ 24 ∷ 26 ∷ [])
     ∷ (9 ∷ 29 ∷ 33 ∷ 35 ∷ 37 ∷ [])
     ∷ (6 ∷ 8 ∷ 13 ∷ 28 ∷ 30 ∷ 32 ∷ 34 ∷ 36 ∷ 38 ∷ [])
     ∷ (4 ∷ [])
@@ -65,15 +65,16 @@ arms =
     ∷ (7 ∷ 15 ∷ 23 ∷ 31 ∷ 39 ∷ 47 ∷ 55 ∷ 63 ∷ [])
     ∷ (22 ∷ [])
     ∷ (17 ∷ [])
+    ∷ (14 ∷ [])
     ∷ (5 ∷ [])
     ∷ (0 ∷ [])
     ∷ []
 
 -- the registers that are words
-words-even : (k : ℕ) → OneOf (10 ∷ 12 ∷ 14 ∷ 19 ∷ 24 ∷ 26 ∷ []) k → Plain (registerIn k) k
+words-even : (k : ℕ) → OneOf (10 ∷ 12 ∷ 19 ∷ 24 ∷ 26 ∷ []) k → Plain (registerIn k) k
 unfolding registerIn registerAt
 words-even k o =
-    by-key (λ (j : ℕ). Plain (registerIn j) j) (10 ∷ 12 ∷ 14 ∷ 19 ∷ 24 ∷ 26 ∷ []) k o writes-station-0 writes-station-2 writes-control writes-pointer writes-table-0 writes-table-2
+    by-key (λ (j : ℕ). Plain (registerIn j) j) (10 ∷ 12 ∷ 19 ∷ 24 ∷ 26 ∷ []) k o writes-station-0 writes-station-2 writes-pointer writes-table-0 writes-table-2
 
 words-odd : (k : ℕ) → OneOf (11 ∷ 25 ∷ 27 ∷ []) k → Plain (registerIn k) k
 unfolding registerIn registerAt
@@ -84,15 +85,15 @@ unfolding allBelow
 write-word-requires c κs =
     let m = c .before in
     let s = m .before .before .before in
-    let o = m .match .keys10 in
-    (s .pre .0, key-below 32 (10 ∷ 12 ∷ 14 ∷ 19 ∷ 24 ∷ 26 ∷ []) _ refl o, (registerIn (s .args .at), words-even (s .args .at) o))
+    let o = m .match .keys11 in
+    (s .pre .0, key-below 32 (10 ∷ 12 ∷ 19 ∷ 24 ∷ 26 ∷ []) _ refl o, (registerIn (s .args .at), words-even (s .args .at) o))
 
 write-word-requires-2 : tie.Need-write-word-requires-2
 unfolding allBelow
 write-word-requires-2 c κs =
     let m = c .before in
     let s = m .before .before .before in
-    let o = m .match .keys11 in
+    let o = m .match .keys12 in
     (s .pre .0, key-below 32 (11 ∷ 25 ∷ 27 ∷ []) _ refl o, (registerIn (s .args .at), words-odd (s .args .at) o))
 
 -- registers with a function of their own
@@ -118,51 +119,51 @@ returns-3 c =
     let r = c .before .before in
     let m = r .before .before in
     let s = m .before .before .before in
-    (plain s 17 (m .match .keys3) (r .write-packet .ensures), (r .write-packet .ensures .kept .whole, s .pre .1 .long))
+    (plain s 14 (m .match .keys3) (r .write-control .ensures), (r .write-control .ensures .kept .whole, s .pre .1 .long))
 
 returns-4 : tie.Need-returns-4
 unfolding registerIn registerAt
 returns-4 c =
-    let r = c .before .before .before .before in
-    let m = r .before .before .before in
+    let r = c .before .before in
+    let m = r .before .before in
     let s = m .before .before .before in
-    let e = r .write-interrupt .ensures in
-    (reached s 22 (m .match .keys4) (e .0), e .1)
+    (plain s 17 (m .match .keys4) (r .write-packet .ensures), (r .write-packet .ensures .kept .whole, s .pre .1 .long))
 
 returns-5 : tie.Need-returns-5
 unfolding registerIn registerAt
 returns-5 c =
-    let r = c .before .before in
-    let m = r .before .before in
+    let r = c .before .before .before .before in
+    let m = r .before .before .before in
     let s = m .before .before .before in
-    let bank = by-key (λ (k : ℕ). rules.BANK ≡ registerIn k) (7 ∷ 15 ∷ 23 ∷ 31 ∷ 39 ∷ 47 ∷ 55 ∷ 63 ∷ []) _ (m .match .keys5) refl refl refl refl refl refl refl refl in
-    (plain s _ refl (subst (λ (x : rules.Register). Does (writeRegister x (lanes s) (s .args .value)) (words s) (r .write-bank .result) (r .write-bank .last .0)) bank (r .write-bank .ensures)), (r .write-bank .ensures .kept .whole, s .pre .1 .long))
+    let e = r .write-interrupt .ensures in
+    (reached s 22 (m .match .keys5) (e .0), e .1)
 
--- refused
 returns-6 : tie.Need-returns-6
 unfolding registerIn registerAt
 returns-6 c =
+    let r = c .before .before in
+    let m = r .before .before in
+    let s = m .before .before .before in
+    let bank = by-key (λ (k : ℕ). rules.BANK ≡ registerIn k) (7 ∷ 15 ∷ 23 ∷ 31 ∷ 39 ∷ 47 ∷ 55 ∷ 63 ∷ []) _ (m .match .keys6) refl refl refl refl refl refl refl refl in
+    (plain s _ refl (subst (λ (x : rules.Register). Does (writeRegister x (lanes s) (s .args .value)) (words s) (r .write-bank .result) (r .write-bank .last .0)) bank (r .write-bank .ensures)), (r .write-bank .ensures .kept .whole, s .pre .1 .long))
+
+-- refused
+returns-7 : tie.Need-returns-7
+unfolding registerIn registerAt
+returns-7 c =
     let s = c .before .before .before in
     let p = lanes s in
     let v = s .args .value in
     let w = words s in
     let k = s .pre .0 in
-    (plain s _ refl (by-key (λ (j : ℕ). Does (writeRegister (registerIn j) p v) w ReadOnly w) (1 ∷ 3 ∷ 18 ∷ []) _ (c .match .keys6) (writes-ephsr p v w k) (writes-ecr p v w k) (writes-heads p v w k)), (k .whole, s .pre .1 .long))
-
-returns-7 : tie.Need-returns-7
-unfolding registerIn registerAt
-returns-7 c =
-    let s = c .before .before .before in
-    let w = words s in
-    (plain s _ refl (by-key (λ (j : ℕ). Does (writeRegister (registerIn j) (lanes s) (s .args .value)) w ReadOnly w) (4 ∷ []) _ (c .match .keys7) (writes-mir (lanes s) (s .args .value) w (s .pre .0))), (s .pre .0 .whole, s .pre .1 .long))
+    (plain s _ refl (by-key (λ (j : ℕ). Does (writeRegister (registerIn j) p v) w ReadOnly w) (1 ∷ 3 ∷ 18 ∷ []) _ (c .match .keys7) (writes-ephsr p v w k) (writes-ecr p v w k) (writes-heads p v w k)), (k .whole, s .pre .1 .long))
 
 returns-8 : tie.Need-returns-8
 unfolding registerIn registerAt
 returns-8 c =
     let s = c .before .before .before in
     let w = words s in
-    let u = writes-absent (lanes s) (s .args .value) w (s .pre .0) in
-    (plain s _ refl (by-key (λ (j : ℕ). Does (writeRegister (registerIn j) (lanes s) (s .args .value)) w NotModelled w) (6 ∷ 8 ∷ 13 ∷ 28 ∷ 30 ∷ 32 ∷ 34 ∷ 36 ∷ 38 ∷ []) _ (c .match .keys8) u u u u u u u u u), (s .pre .0 .whole, s .pre .1 .long))
+    (plain s _ refl (by-key (λ (j : ℕ). Does (writeRegister (registerIn j) (lanes s) (s .args .value)) w ReadOnly w) (4 ∷ []) _ (c .match .keys8) (writes-mir (lanes s) (s .args .value) w (s .pre .0))), (s .pre .0 .whole, s .pre .1 .long))
 
 returns-9 : tie.Need-returns-9
 unfolding registerIn registerAt
@@ -170,29 +171,37 @@ returns-9 c =
     let s = c .before .before .before in
     let w = words s in
     let u = writes-absent (lanes s) (s .args .value) w (s .pre .0) in
-    (plain s _ refl (by-key (λ (j : ℕ). Does (writeRegister (registerIn j) (lanes s) (s .args .value)) w NotModelled w) (9 ∷ 29 ∷ 33 ∷ 35 ∷ 37 ∷ []) _ (c .match .keys9) u u u u u), (s .pre .0 .whole, s .pre .1 .long))
+    (plain s _ refl (by-key (λ (j : ℕ). Does (writeRegister (registerIn j) (lanes s) (s .args .value)) w NotModelled w) (6 ∷ 8 ∷ 13 ∷ 28 ∷ 30 ∷ 32 ∷ 34 ∷ 36 ∷ 38 ∷ []) _ (c .match .keys9) u u u u u u u u u), (s .pre .0 .whole, s .pre .1 .long))
+
+returns-10 : tie.Need-returns-10
+unfolding registerIn registerAt
+returns-10 c =
+    let s = c .before .before .before in
+    let w = words s in
+    let u = writes-absent (lanes s) (s .args .value) w (s .pre .0) in
+    (plain s _ refl (by-key (λ (j : ℕ). Does (writeRegister (registerIn j) (lanes s) (s .args .value)) w NotModelled w) (9 ∷ 29 ∷ 33 ∷ 35 ∷ 37 ∷ []) _ (c .match .keys10) u u u u u), (s .pre .0 .whole, s .pre .1 .long))
 
 -- the words
-returns-10 : tie.Need-returns-10
-returns-10 c =
-    let r = c .before .before in
-    let m = r .before .before in
-    let s = m .before .before .before in
-    let d = r .write-word .ensures .0 (registerIn (s .args .at)) (words-even (s .args .at) (m .match .keys10)) in
-    (plain s _ refl d, (d .kept .whole, s .pre .1 .long))
-
 returns-11 : tie.Need-returns-11
 returns-11 c =
     let r = c .before .before in
     let m = r .before .before in
     let s = m .before .before .before in
-    let d = r .write-word2 .ensures .0 (registerIn (s .args .at)) (words-odd (s .args .at) (m .match .keys11)) in
+    let d = r .write-word .ensures .0 (registerIn (s .args .at)) (words-even (s .args .at) (m .match .keys11)) in
+    (plain s _ refl d, (d .kept .whole, s .pre .1 .long))
+
+returns-12 : tie.Need-returns-12
+returns-12 c =
+    let r = c .before .before in
+    let m = r .before .before in
+    let s = m .before .before .before in
+    let d = r .write-word2 .ensures .0 (registerIn (s .args .at)) (words-odd (s .args .at) (m .match .keys12)) in
     (plain s _ refl d, (d .kept .whole, s .pre .1 .long))
 
 -- banks 5 to 7
-returns-12 : tie.Need-returns-12
+returns-13 : tie.Need-returns-13
 unfolding passed inSome member
-returns-12 c =
+returns-13 c =
     let s = c .before .before .before in
     let below = place-below _ _ (words s) (s .pre .0) (s .pre .2) in
     let unused = unused-left ((2 ∷ []) ∷ (16 ∷ []) ∷ arms) refl (s .args .at) (omega (arith, s .pre .3, below)) (s .pre .4) ((c .match .rest, s .pre .6), s .pre .5) in
@@ -204,6 +213,7 @@ write-register-spec =
     (tie.spec
     (λ c κs. c .before .before .before .before .pre .0)
     (λ c κs. let s = c .before .before .before .before in (s .pre .0, s .pre .2))
+    (λ c κs. c .before .before .before .before .pre .0)
     (λ c κs. let s = c .before .before .before .before in (s .pre .0, s .pre .2))
     (λ c κs. let s = c .before .before .before .before .before in (s .pre .0, s .pre .1, s .pre .2, s .pre .7))
     (λ c κs. let s = c .before .before .before .before in (s .pre .0, s .pre .2))
@@ -216,16 +226,18 @@ write-register-spec =
     (λ c. search needs)
     returns-3
     (λ c. search needs)
-    (λ c. search needs)
     returns-4
     (λ c. search needs)
+    (λ c. search needs)
     returns-5
+    (λ c. search needs)
     returns-6
     returns-7
     returns-8
     returns-9
-    (λ c. search needs)
     returns-10
     (λ c. search needs)
     returns-11
-    returns-12)
+    (λ c. search needs)
+    returns-12
+    returns-13)

@@ -16,7 +16,7 @@ returns-3 : tie.Need-returns-3
 returns-3 c =
     let b = c .before .before in
     let f = b .before .before in
-    let s = f .before .before .before .before .before .before .before in
+    let s = f .before .before .before .before .before .before .before .before in
     let fixed = f .before .fixed-good .ensures .sound (not-false _ (f .if1 .left)) in
     agrees (c .packet-good .ensures)
     (λ p. (
@@ -29,4 +29,4 @@ pub words-good-spec : {M : Type 1} → statement M
 words-good-spec =
     tie.close
     (tie.spec
-    (λ c. search needs) (λ c. search needs) (λ c. search needs) (λ c. search needs) (λ c κs. search needs) returns (λ c κs. search needs) returns-2 (λ c. search needs) (λ c κs. search needs) returns-3)
+    (λ c. search needs) (λ c. search needs) (λ c. search needs) (λ c. search needs) (λ c. search needs) (λ c κs. search needs) returns (λ c κs. search needs) returns-2 (λ c. search needs) (λ c κs. search needs) returns-3)

@@ -7,13 +7,13 @@ use Rattle.registers.proofs.interrupts.status.Statement.{statement}
 use Rattle.registers.proofs.interrupts.status.Tie as tie
 
 gathered-requires : tie.Need-gathered-requires
-gathered-requires c κs = latches-small _ (c .before .before .before .before .before .before .before .before .before .pre .fixed .latched)
+gathered-requires c κs = latches-small _ (c .before .before .before .before .before .before .before .before .before .before .pre .fixed .latched)
 
 returns : tie.Need-returns
 returns c =
     let d = c .before .before .before .before in
-    let s = d .before .before .before .before .before .before in
-    (shows (s .args .words .now) (s .pre) _ _ _ (d .before .before .before .is-set .ensures) (d .eph .ensures) (c .gathered .ensures .0), c .gathered .ensures .1)
+    let s = d .before .before .before .before .before .before .before in
+    (shows (s .args .words .now) (s .pre) _ _ _ (d .before .before .before .before .is-set .ensures) (d .eph .ensures) (c .gathered .ensures .0), c .gathered .ensures .1)
 
 pub status-spec : {M : Type 1} → statement M
 status-spec =
@@ -21,6 +21,7 @@ status-spec =
     (tie.spec
     (λ c. search needs)
     (λ c κs. search needs)
+    (λ c. search needs)
     (λ c. search needs)
     (λ c. search needs)
     (λ c κs. search needs)

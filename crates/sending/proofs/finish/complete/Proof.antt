@@ -12,7 +12,7 @@ use Rattle.sending.proofs.finish.complete.Tie as tie
 
 -- the places on the way
 abbrev sent-at : tie.After-write-status → tie.After-after-send
-sent-at x = x .before .before .before .before .before .before .before
+sent-at x = x .before .before .before .before .before .before .before .before .before
 
 abbrev address-at : tie.After-after-send → tie.After-address-bits
 address-at t = t .before .before .before
@@ -39,7 +39,7 @@ returns c =
     let x = r .before .before .before .before .before .before in
     let t = sent-at x in
     let e = t .after-send .ensures in
-    completes (e .1) (e .0) (address-at t .address-bits .ensures .0) (x .write-status .ensures) (r .retire .ensures)
+    completes (e .1) (e .0) (address-at t .address-bits .ensures .0) (x .before .before .shown-ephsr .ensures) (x .write-status .ensures) (r .retire .ensures)
 
 pub complete-spec : {M : Type 1} → statement M
 complete-spec =
@@ -48,7 +48,9 @@ complete-spec =
     (λ c κs. search needs)
     (λ c κs. search needs)
     (λ c. search needs)
-    (λ c κs. room-less (start (c .before .before .before .before .before .before) .pre .2) 2 (omega arith))
+    (λ c. search needs)
+    (λ c κs. search needs)
+    (λ c κs. room-less (start (c .before .before .before .before .before .before .before .before) .pre .2) 2 (omega arith))
     retire-requires
     (λ c. search needs)
     (λ c. search needs)

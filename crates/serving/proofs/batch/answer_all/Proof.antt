@@ -65,41 +65,40 @@ room c =
 
 print-requires : tie.Need-print-requires Inv-loop μ-loop
 print-requires c κs =
-    let v = c .before .before .before .before .before .before .before .before .before .before .before .before .before .before .before .before .before .before .before .before .before .before .before .before .before .before .before .loop .inv in
-    let h = c .before .before .before .before .before .before .before .before .before .before .before .before .before .before .before .before .before .answer .ensures .held .chip .ready .sound in
-    ((h .kept, (_, h .queues)), (v .3, omega (arith, c .before .before .before .before .before .before .out .given, v .9, c .before .before .before .before .before .before .before .before .before .before .before .before .before .before .before .before .before .before .before .before .before .before .before .before .before .before .before .before .before .before .before .before .before .before .before .before .before .before .pre .0 .1), room (c .before .before .before .before .before .before .before .before .before .before .before .before .before .before .before .before .before .before .before .before .before .before .before .before .before .before)))
+    let v = c .before .before .before .before .before .before .before .before .before .before .before .before .before .before .before .before .before .before .before .before .before .before .before .before .before .before .before .before .loop .inv in
+    (v .3, omega (arith, c .before .before .before .before .before .before .before .out .given, v .9, c .before .before .before .before .before .before .before .before .before .before .before .before .before .before .before .before .before .before .before .before .before .before .before .before .before .before .before .before .before .before .before .before .before .before .before .before .before .before .before .pre .0 .1), room (c .before .before .before .before .before .before .before .before .before .before .before .before .before .before .before .before .before .before .before .before .before .before .before .before .before .before .before))
 
 next-requires : tie.Need-next-requires Inv-loop μ-loop
 next-requires c κs =
-    let v = c .before .before .before .before .before .before .before .before .before .before .before .before .before .before .before .before .before .before .before .before .before .before .before .before .before .before .before .before .before .before .loop .inv in
-    let p = c .before .before .before .before .before .before .before .before .before .before .before .before .before .before .before .before .before .before .before .before .before .before .before .before .before .before .before .before .before .before .before .before .before .before .before .before .before .before .before .before .before .pre .1 in
-    (v .3, omega (arith, v .2 .counted, p .2, p .0, c .before .before .before .before .before .before .before .before .before .before .before .before .before .before .before .before .before .before .before .before .before .before .before .before .before .before .before .before .before .loop-test .taken))
+    let v = c .before .before .before .before .before .before .before .before .before .before .before .before .before .before .before .before .before .before .before .before .before .before .before .before .before .before .before .before .before .before .before .loop .inv in
+    let p = c .before .before .before .before .before .before .before .before .before .before .before .before .before .before .before .before .before .before .before .before .before .before .before .before .before .before .before .before .before .before .before .before .before .before .before .before .before .before .before .before .before .before .pre .1 in
+    (v .3, omega (arith, v .2 .counted, p .2, p .0, c .before .before .before .before .before .before .before .before .before .before .before .before .before .before .before .before .before .before .before .before .before .before .before .before .before .before .before .before .before .before .loop-test .taken))
 
 add-k : tie.Need-add-k Inv-loop μ-loop
-add-k c = omega (arith, c .before .before .before .before .before .before .before .before .before .before .before .before .before .before .before .before .before .before .before .before .before .before .before .before .before .before .before .before .before .before .loop-test .taken, c .before .before .before .before .before .before .before .before .before .before .before .before .before .before .before .before .before .before .before .before .before .before .before .before .before .before .before .before .before .before .before .before .before .before .before .before .before .before .before .before .before .before .pre .1 .0)
+add-k c = omega (arith, c .before .before .before .before .before .before .before .before .before .before .before .before .before .before .before .before .before .before .before .before .before .before .before .before .before .before .before .before .before .before .before .loop-test .taken, c .before .before .before .before .before .before .before .before .before .before .before .before .before .before .before .before .before .before .before .before .before .before .before .before .before .before .before .before .before .before .before .before .before .before .before .before .before .before .before .before .before .before .before .pre .1 .0)
 
 loop-less : tie.Need-loop-less Inv-loop μ-loop
-loop-less c = omega (arith, c .before .before .before .before .before .before .before .before .before .before .before .before .before .before .before .before .before .before .before .before .before .before .before .before .before .before .before .before .before .before .loop-test .taken)
+loop-less c = omega (arith, c .before .before .before .before .before .before .before .before .before .before .before .before .before .before .before .before .before .before .before .before .before .before .before .before .before .before .before .before .before .before .before .loop-test .taken)
 
 loop-again : tie.Need-loop-again Inv-loop μ-loop
 loop-again c =
-    let s = c .before .before .before .before .before .before .before .before .before .before .before .before .before .before .before .before .before .before .before .before .before .before .before .before .before .before .before .before .before .before .before .before .before .before .before .before .before .before .before .before .before .before in
-    let l = c .before .before .before .before .before .before .before .before .before .before .before .before .before .before .before .before .before .before .before .before .before .before .before .before .before .before .before .before .before .before .before in
+    let s = c .before .before .before .before .before .before .before .before .before .before .before .before .before .before .before .before .before .before .before .before .before .before .before .before .before .before .before .before .before .before .before .before .before .before .before .before .before .before .before .before .before .before .before in
+    let l = c .before .before .before .before .before .before .before .before .before .before .before .before .before .before .before .before .before .before .before .before .before .before .before .before .before .before .before .before .before .before .before .before in
     let v = l .loop .inv in
     let p = c .before .before .before .print .ensures in
-    let t = c .before .before .before .before .before .before .before .before .before .before .before .before .before .before .before .before .before .before .before .before .before .before .before .before .before .before .before .before .before .before .loop-test .taken in
-    let a = c .before .before .before .before .before .before .before .before .before .before .before .before .before .before .before .before .before .before .before .before .before .answer .ensures in (
+    let t = c .before .before .before .before .before .before .before .before .before .before .before .before .before .before .before .before .before .before .before .before .before .before .before .before .before .before .before .before .before .before .before .loop-test .taken in
+    let a = c .before .before .before .before .before .before .before .before .before .before .before .before .before .before .before .before .before .before .before .before .before .before .answer .ensures in (
       omega (arith, t),
       omega (arith, v .1, p .1, room-more (s .args .watching) (l .loop .k)),
-      one-more (s .args .watching) (l .loop .k) _ _ (s .args .input .now) _ _ (omega arith) (record-told (l .loop .k) (s .args .input .now)) (omega (arith, room (c .before .before .before .before .before .before .before .before .before .before .before .before .before .before .before .before .before .before .before .before .before .before .before .before .before .before .before .before .before .before))) (v .2)
-          a (p .0) (c .before .before .before .before .before .before .before .before .is-send .ensures) (counter-number (c .next .ensures)),
+      one-more (s .args .watching) (l .loop .k) _ _ (s .args .input .now) _ _ (omega arith) (record-told (l .loop .k) (s .args .input .now)) (omega (arith, room (c .before .before .before .before .before .before .before .before .before .before .before .before .before .before .before .before .before .before .before .before .before .before .before .before .before .before .before .before .before .before .before))) (v .2)
+          a (p .0) (c .before .before .before .before .before .before .before .line-up .ensures) (c .before .before .before .before .before .before .before .before .before .is-send .ensures) (counter-number (c .next .ensures)),
       counter-counts (c .next .ensures),
-      c .before .before .before .before .before .before .before .before .before .before .before .before .before .before .before .before .before .before .before .before .words .given ∙ v .4,
-      c .before .before .before .before .before .before .before .before .before .before .before .before .before .before .before .before .before .before .sets .given ∙ v .5,
-      c .before .before .before .before .before .before .before .before .before .before .before .before .before .before .before .before .queues .given ∙ v .6,
-      c .before .before .before .before .before .before .before .before .before .before .before .before .before .before .memory .given ∙ v .7,
-      c .before .before .before .before .before .before .before .before .before .before .before .before .wire .given ∙ v .8,
-      c .before .before .before .before .before .before .before .before .before .before .out .given ∙ v .9,
+      c .before .before .before .before .before .before .before .before .before .before .before .before .before .before .before .before .before .before .before .before .before .words .given ∙ v .4,
+      c .before .before .before .before .before .before .before .before .before .before .before .before .before .before .before .before .before .before .before .sets .given ∙ v .5,
+      c .before .before .before .before .before .before .before .before .before .before .before .before .before .before .before .before .before .queues .given ∙ v .6,
+      c .before .before .before .before .before .before .before .before .before .before .before .before .before .before .before .memory .given ∙ v .7,
+      c .before .before .before .before .before .before .before .before .before .before .before .before .before .wire .given ∙ v .8,
+      c .before .before .before .before .before .before .before .before .before .before .before .out .given ∙ v .9,
       c .before .before .lines .given ∙ v .10,
     )
 
@@ -126,6 +125,7 @@ answer-all-spec =
     (λ c. search needs)
     answer-requires
     is-send-requires
+    (λ c κs. let h = c .before .before .before .before .before .before .before .before .before .before .before .before .before .before .answer .ensures .held .chip .ready .sound in (h .kept, (_, h .queues)))
     print-requires
     next-requires
     add-k

@@ -18,7 +18,7 @@ use Rattle.strip_steps.proofs.sends.complete.Tie as tie
 
 -- The places on the way, and what is at hand there.
 abbrev sent-at : tie.After-write-word → tie.After-after-send
-sent-at x = x .before .before .before .before .before .before .before
+sent-at x = x .before .before .before .before .before .before .before .before .before
 
 abbrev address-at : tie.After-after-send → tie.After-address-bits
 address-at t = t .before .before .before
@@ -40,7 +40,7 @@ address-bits-requires c κs =
 
 write-word-requires : tie.Need-write-word-requires
 write-word-requires c κs =
-    let s = start (c .before .before .before .before .before .before) in
+    let s = start (c .before .before .before .before .before .before .before .before) in
     in-strip (s .pre .0) (packet s) 2 0 (s .args .memory .now) (within s 2 (omega arith)) (omega arith) (s .pre .1)
 
 retire-requires : tie.Need-retire-requires
@@ -64,6 +64,7 @@ returns c =
     let s = start t in
     completes (t .after-send .ensures .1) (s .pre .3)
     (address-at t .address-bits .ensures .0 ∙ ap addressBits (strip-reads (s .pre .0) (packet s) 6 4 (s .args .memory .now) (within s 10 (omega arith))))
+    (x .before .before .shown-ephsr .ensures)
     (x .write-word .ensures ∙ strip-writes (s .pre .0) (packet s) _ 0 (s .args .memory .now) (within s 2 (omega arith)))
     (r .retire .ensures)
 
@@ -74,6 +75,8 @@ complete-spec =
     address-bits-requires
     (λ c κs. search needs)
     (λ c. search needs)
+    (λ c. search needs)
+    (λ c κs. search needs)
     write-word-requires
     retire-requires
     (λ c. search needs)
