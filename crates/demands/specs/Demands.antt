@@ -24,7 +24,7 @@ use Rattle.laws.specs.Reading.{Balances}
 use Rattle.laws.specs.Fcs.{bytesOut, AppendsFcs, OneByteApart, step-sends-good, one-byte-changed-is-found}
 use Rattle.laws.specs.Head.{headPages}
 use Rattle.laws.specs.LinkApart.{ByLink, butStatus, TurnsApart, LinkApart, SameAnswers, linkFirst, linkLast}
-use Rattle.laws.specs.LinkPlaces.{link-apart, link-and-frame, link-and-send, link-and-refused-send}
+use Rattle.laws.specs.LinkPlaces.{link-alone, link-apart, link-and-frame, link-and-send, link-and-refused-send}
 use Rattle.laws.specs.Loads.{Loads}
 use Rattle.laws.specs.Merge.{Merge, Alike, any-two}
 use Rattle.laws.specs.Written.{unwritten, OnlyWritten}
@@ -33,7 +33,7 @@ use Rattle.laws.specs.Theorems.{Whole, power-up-whole, step-whole, pages-accoun
 use Rattle.demands.specs.Boards.{Board, Left, replyTo, boardAfter, chipOf, ReadyBy, Good, Serves, Starts, Shows, Runs, AsRules, serves-right, serves-once}
 use Rattle.demands.specs.OfCode.{serves-numbers, serves-leaves, serves-values, serves-sixteen, serves-no17, serves-earlier, serves-counts, serves-pages, starts-up, BalancesOn, runs-balanced, runs-balanced-since, serves-good-crc, AlikeOn, any-two-on}
 use Rattle.demands.specs.BesideCode.{BesideOn, runs-beside}
-use Rattle.demands.specs.LinkOfCode.{AnsweredAlike, turnOf, serves-apart, frame-places, send-places}
+use Rattle.demands.specs.LinkOfCode.{AnsweredAlike, turnOf, serves-alone, serves-apart, frame-places, send-places}
 
 -- Demand 1. "Every access, arriving frame and send gets an answer, whatever numbers and bytes come in. What the sheet forbids or the model lacks is refused by a number of document 01; a refusal changes no
 -- register, no packet byte and nothing in the output buffer." (`step` is a function on every input and chip, and the public entries ask nothing of what they are given: each call has a result.)
@@ -112,6 +112,8 @@ pub record FrameCheck : Type 0 where
 
 -- Document 02, W8. "Frames arrive and sends finish as before, whatever the link."
 pub record WhateverLink : Type 0 where
+  -- a link event changes link and change seen, and nothing else
+  pub alone : (x : ℕ) (c : Chip) → ByLink c (step (link x) c .chip)
   -- any input to two chips that differ at most in link and change seen: the numbers agree, the values but for bit 14 of an EPHSR read and bit 5 of an interrupt status read, and what a send puts out; afterwards the
   -- chips differ at most in link and change seen and, after a send that is done, in bit 14 of the status word that it wrote
   pub apart : (i : Input) (c d : Chip) → ByLink c d → LinkApart 24 i c d
@@ -119,7 +121,8 @@ pub record WhateverLink : Type 0 where
   pub framePlaces : (x : ℕ) (f : Frame) (c : Chip) → SameAnswers 24 x (frame f) c × (linkFirst 24 x (frame f) c ≡ linkLast 24 x (frame f) c)
   pub sendPlaces : (x : ℕ) (s : Send) (out : List ℕ) (c : Chip) → SameAnswers 24 x (sent s out) c × (butStatus (headPages c) (linkFirst 24 x (sent s out) c) ≡ butStatus (headPages c) (linkLast 24 x (sent s out) c))
   pub refusedPlaces : (x : ℕ) (s : Send) (out : List ℕ) (c : Chip) → (step (sent s out) c .reply .number ≡ 0 → ⊥) → linkFirst 24 x (sent s out) c ≡ linkLast 24 x (sent s out) c
-  -- Of the code, on both chips: of two boards in order; and of any board, where u and v are left with the link event first, y and z with it last.
+  -- Of the code, on both chips: of any board; of two boards in order; and of any board, where u and v are left with the link event first, y and z with it last.
+  pub codeAlone : (l : Layout) (x : ℕ) (b : Board) (u : Left) → Serves l (link x) b u → ByLink (chipOf l b) (chipOf l (u .board))
   pub codeApart : (l : Layout) (i : Input) (b d : Board) (x y : Left) → Good l b → Good l d → ByLink (chipOf l b) (chipOf l d) → Serves l i b x → Serves l i d y → TurnsApart i (chipOf l b) (turnOf l x) (turnOf l y)
   pub codeFramePlaces : (l : Layout) (x : ℕ) (f : Frame) (b : Board) (u v y z : Left) → Serves l (link x) b u → Serves l (frame f) (u .board) v → Serves l (frame f) b y → Serves l (link x) (y .board) z
       → AnsweredAlike u v y z × (v .board ≡ z .board)
@@ -171,10 +174,12 @@ frame-check = record { sentGood = λ s out c. step-sends-good 24 s c out; change
 
 pub whatever-link : WhateverLink
 whatever-link = record {
+  alone = link-alone 24;
   apart = link-apart 24;
   framePlaces = link-and-frame 24;
   sendPlaces = link-and-send 24;
   refusedPlaces = link-and-refused-send 24;
+  codeAlone = serves-alone;
   codeApart = serves-apart;
   codeFramePlaces = frame-places;
   codeSendPlaces = send-places;

@@ -1,5 +1,5 @@
 -- What document 02's W8 says of frames and sends "whatever the link", carried over to the code: of any board, in order or not.
-use mathlib.Core.Path.{_≡_, ap, ap₂, sym, subst, _∙_}
+use mathlib.Core.Path.{_≡_, refl, ap, ap₂, sym, subst, _∙_}
 use mathlib.Core.List.{List}
 use Prim.Native.Nat.{ℕ}
 use Rattle.rules.specs.Chip.{Layout, Chip}
@@ -10,7 +10,7 @@ use Rattle.rules.specs.Step.{Input, frame, sent, link, step}
 use Rattle.state.specs.Decided.{decided}
 use Rattle.laws.specs.Head.{headPages}
 use Rattle.laws.specs.LinkApart.{ByLink, butStatus, TurnsApart, SameAnswers, linkFirst, linkLast}
-use Rattle.laws.specs.LinkPlaces.{link-apart, link-and-frame, link-and-send}
+use Rattle.laws.specs.LinkPlaces.{link-alone, link-apart, link-and-frame, link-and-send}
 use Rattle.demands.specs.Boards.{Board, Left, replyTo, chipOf, Good, Serves, AsRules, one-board, serves-right, serves-refused}
 
 -- A link event and another input in either order: u and v are left where the link event comes first, y and z where it comes last. Each is answered as if it came first.
@@ -26,6 +26,14 @@ module _ (l : Layout) where
 
   as-turn : (i : Input) (b : Board) (x : Left) → Good l b → Serves l i b x → turnOf x ≡ step i (chipOf l b)
   as-turn i b x g a = let r = serves-right l i b x g a in λ j. record { reply = r .reply j; chip = r .chip j; output = r .output j }
+
+  -- A link event changes the link and its change, and nothing else, on any board.
+  pub serves-alone : (x : ℕ) (b : Board) (u : Left) → Serves l (link x) b u → ByLink (chipOf l b) (chipOf l (u .board))
+  serves-alone x b u a = go (decided l (b .words) (b .pages) (b .queues) (b .memory))
+    where
+      go : Dec (Good l b) → ByLink (chipOf l b) (chipOf l (u .board))
+      go (yes g) = subst (ByLink (chipOf l b)) (sym (serves-right l (link x) b u g a .chip)) (link-alone 24 x (chipOf l b))
+      go (no n) = subst (λ (d : Board). ByLink (chipOf l b) (chipOf l d)) (sym (serves-refused l (link x) b u n a .board)) refl
 
   -- One input on two boards in order, whose chips differ at most in link and change seen.
   pub serves-apart : (i : Input) (b d : Board) (x y : Left) → Good l b → Good l d → ByLink (chipOf l b) (chipOf l d) → Serves l i b x → Serves l i d y → TurnsApart i (chipOf l b) (turnOf x) (turnOf y)

@@ -15,6 +15,7 @@ pub mod Fcs
 -- Demand 1: a refusal changes nothing, and which numbers an input may get.
 pub mod Refusals
 -- Demand 2: each page is free or in one packet, and the free count is accounted for. (`wellformed` has that each step keeps a chip well formed.)
+pub mod Untouched
 pub mod Layout
 pub mod Accounted
 pub mod Ledger

@@ -5,21 +5,19 @@ use mathlib.Core.Logic.{_⊎_, inl, inr, ⊎-elim}
 use mathlib.Core.List.{List, []}
 use Prim.Native.Nat.{ℕ}
 use native.Mathlib.Omega.{arith}
-use lib.Dec.{eqb, leb, ltb}
-use lib.ListN.{length}
+use lib.Dec.{eqb, ltb}
 use Rattle.rules.specs.Bits.{bit, lowByte}
-use Rattle.rules.specs.Chip.{Link, Registers, Chip, free}
+use Rattle.rules.specs.Chip.{Link, Registers, Chip}
 use Rattle.rules.specs.Fields.{inRegisters}
 use Rattle.rules.specs.Answers.{Effect, Turn, leaving}
-use Rattle.rules.specs.Mmu.{Command, nothing, allocate, reset, removeRx, removeAndRelease, release, enqueue, resetTx, unknown, decode, perform, settle}
-use Rattle.rules.specs.Data.{readData, writeData}
+use Rattle.rules.specs.Mmu.{decode}
 use Rattle.rules.specs.Link.{plug}
-use Rattle.rules.specs.Registers.{Lanes, low, high, both, Register, TCR, EPHSR, RCR, ECR, MIR, RESERVED, STATION, CONTROL, COMMAND, PACKET, HEADS, POINTER, DATA, INTERRUPT, TABLE, BANK, UNUSED, ABSENT, bytesOf, newRcr, writeRcr, writeTcr, writeInterrupt, writeRegister, registerAt, misplaced, lanesAt, Access, read, write, access}
-use Rattle.rules.specs.Receive.{Frame, arrive}
-use Rattle.rules.specs.Send.{Send, good, autoRelease, sendHead, finish}
+use Rattle.rules.specs.Registers.{Lanes, Register, TCR, EPHSR, RCR, ECR, MIR, RESERVED, STATION, CONTROL, COMMAND, PACKET, HEADS, POINTER, DATA, INTERRUPT, TABLE, BANK, UNUSED, ABSENT, bytesOf, newRcr, writeRcr, writeTcr, writeRegister, registerAt, misplaced, lanesAt, Access, read, write, access}
+use Rattle.rules.specs.Receive.{Frame}
+use Rattle.rules.specs.Send.{Send}
 use Rattle.rules.specs.Step.{Input, driver, frame, sent, link, serve, stepOf}
-use Rattle.wellformed.specs.Cases.{pick, by-settle, by-head, by-idle, by-packet, by-tests, by-lanes, by-read, by-send, by-step}
-use Rattle.laws.specs.Reception.{frame-is}
+use Rattle.wellformed.specs.Cases.{pick, by-lanes, by-read, by-step}
+use Rattle.laws.specs.Untouched.{performs, reads-data, writes-data, writes-interrupt, arrives, finishes}
 
 -- a write that reaches this register and leaves the chip d may forget the change: "a write to either control byte", and a soft reset, which leaves RCR bit 15 set
 abbrev pub ForgetsAt : Register → Chip → Type 0
@@ -74,37 +72,7 @@ module _ (c : Chip) where
   abbrev KeptIn : Register → Effect → Type 0
   KeptIn r e = Kept (ForgetsAt r) (e .chip)
 
-  -- No grant of what waits, no command and no data access touches it.
-  settled : (d : Chip) → Same d → Same (settle d)
-  settled d h = by-settle Same d (λ e. h) (λ e. h)
-
-  performs : (k : Command) → SameIn (perform k c)
-  unfolding perform
-  performs nothing = refl
-  performs (allocate m) = pick SameIn (leb m (length (free c))) refl refl
-  performs reset = refl
-  performs removeRx = by-head c SameIn _ (c .pool .rx) refl (λ k ks e. refl)
-  performs removeAndRelease = by-head c SameIn _ (c .pool .rx) refl (λ k ks e. settled _ refl)
-  performs release = by-idle c SameIn _ refl refl (λ a r t. settled _ refl)
-  performs enqueue = by-idle c SameIn _ refl refl (λ a r t. refl)
-  performs resetTx = refl
-  performs unknown = refl
-
-  reads-data : (wide : ℕ) → SameIn (readData wide c)
-  unfolding readData
-  reads-data wide = by-packet c SameIn _ refl refl (λ pages. by-tests c SameIn _ wide pages _ refl refl refl refl)
-
-  writes-data : (bytes : List ℕ) → SameIn (writeData bytes c)
-  unfolding writeData
-  writes-data bytes = by-packet c SameIn _ refl refl (λ pages. by-tests c SameIn _ (length bytes) pages _ refl refl refl refl)
-
   -- Of the registers only RCR, by a soft reset, and control forget the change.
-  writes-interrupt : (p : Lanes) (v : ℕ) → Same (writeInterrupt p v c)
-  unfolding writeInterrupt
-  writes-interrupt low v = refl
-  writes-interrupt high v = refl
-  writes-interrupt both v = refl
-
   writes : (r : Register) (p : Lanes) (v : ℕ) → KeptIn r (writeRegister r p v c)
   unfolding writeRegister writeRcr writeTcr
   writes TCR p v = inl (pick (λ (r : Registers). Same (inRegisters (λ z. r) c)) (bit 0 _) refl refl)
@@ -115,43 +83,31 @@ module _ (c : Chip) where
   writes RESERVED p v = inl (by-lanes c SameIn p _ refl refl)
   writes (STATION k) p v = inl refl
   writes CONTROL p v = inr (tt, refl)
-  writes COMMAND p v = inl (by-lanes c SameIn p _ refl (performs (decode (lowByte v))))
+  writes COMMAND p v = inl (by-lanes c SameIn p _ refl (performs c (decode (lowByte v)) .1))
   writes PACKET p v = inl (by-lanes c SameIn p _ refl refl)
   writes HEADS p v = inl refl
   writes POINTER p v = inl refl
-  writes DATA p v = inl (writes-data (bytesOf p v))
-  writes INTERRUPT p v = inl (writes-interrupt p v)
+  writes DATA p v = inl (writes-data c (bytesOf p v) .1)
+  writes INTERRUPT p v = inl (writes-interrupt c p v .1)
   writes (TABLE k) p v = inl refl
   writes BANK p v = inl (by-lanes c SameIn p _ refl refl)
   writes UNUSED p v = inl refl
   writes ABSENT p v = inl refl
 
-  -- All accesses, frames and sends.
+  -- All accesses.
   accesses : (a : Access) → Kept (Forgets (driver a) c) (access a c .chip)
   unfolding access
-  accesses (read w o) = inl (pick SameIn (misplaced w o) refl (by-read c SameIn refl (λ v. refl) (λ v. refl) reads-data (registerAt (c .regs .numbers .bank) o) (lanesAt w o)))
+  accesses (read w o) = inl (pick SameIn (misplaced w o) refl (by-read c SameIn refl (λ v. refl) (λ v. refl) (λ wide. reads-data c wide .1) (registerAt (c .regs .numbers .bank) o) (lanesAt w o)))
   accesses (write w o v) = pick (λ (e : Effect). Kept (Forgets (driver (write w o v)) c) (e .chip)) (misplaced w o) (inl refl) (writes (registerAt (c .regs .numbers .bank) o) (lanesAt w o) v)
-
-  arrives : (f : Frame) → SameIn (arrive f c)
-  arrives f = ap (λ (e : Effect). e .chip .regs .link) (frame-is f c)
-
-  abbrev SameBy : Turn → Type 0
-  SameBy t = Same (t .chip)
-
-  finishes : (s : Send) (out : List ℕ) → SameBy (finish s c out)
-  unfolding sendHead
-  finishes s out =
-      by-send c out SameBy s refl refl refl (λ k rest e. refl) (λ k rest e. refl) (λ k rest e. refl) refl
-      (λ k rest e f. pick Same (autoRelease (good (c .regs .sending .tcr) (s .outcome)) (c .regs)) (settled _ refl) refl)
 
 -- A frame leaves the link, and so does a send.
 pub frame-leaves-link : (n : ℕ) (f : Frame) (c : Chip) → stepOf n (frame f) c .chip .regs .link ≡ c .regs .link
 unfolding serve
-frame-leaves-link n f c = by-step c (SameBy c) n (frame f) refl (arrives c f)
+frame-leaves-link n f c = by-step c (λ (t : Turn). Same c (t .chip)) n (frame f) refl (arrives c f .1)
 
 pub send-leaves-link : (n : ℕ) (s : Send) (out : List ℕ) (c : Chip) → stepOf n (sent s out) c .chip .regs .link ≡ c .regs .link
 unfolding serve
-send-leaves-link n s out c = by-step c (SameBy c) n (sent s out) refl (finishes c s out)
+send-leaves-link n s out c = by-step c (λ (t : Turn). Same c (t .chip)) n (sent s out) refl (finishes c s out .1)
 
 -- no link event
 abbrev pub NoLinkEvent : Input → Type 0

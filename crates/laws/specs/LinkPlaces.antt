@@ -66,6 +66,12 @@ event-is n x c = go (fit n c) (ltb 1 x)
     go true false = refl
     go false o = refl
 
+-- A link event changes the link and its change, and nothing else: no other register, no queue, no page list, no byte.
+pub link-alone : (n x : ℕ) (c : Chip) → ByLink c (stepOf n (link x) c .chip)
+link-alone n x c =
+    let e = ap (λ (t : Turn). t .chip) (event-is n x c) in
+    e ∙ sym (ap (λ (d : Chip). linked (d .regs .link) c) e)
+
 -- A chip is in order after a step exactly where it was before.
 fit-stays : (n : ℕ) (i : Input) (c : Chip) → fit n (stepOf n i c .chip) ≡ fit n c
 fit-stays n i c = go (fit n c) refl
@@ -85,7 +91,7 @@ module _ (n x : ℕ) (i : Input) (leaves : (d : Chip) → stepOf n i d .chip .re
 
   -- The event comes first: the chip with that link takes the input.
   apart : LinkApart n i c (stepOf n (link x) c .chip)
-  apart = link-apart n i c _ (event-chip ∙ sym (ap (λ (d : Chip). linked (d .regs .link) c) event-chip))
+  apart = link-apart n i c _ (link-alone n x c)
 
   first-link : linkFirst n x i c .regs .link ≡ new
   first-link = leaves (stepOf n (link x) c .chip) ∙ ap (λ (d : Chip). d .regs .link) event-chip
