@@ -2,6 +2,7 @@
 
 use crate::chip::ChipOn;
 use crate::memory::{Layout, Paged, Strips};
+use crate::part::Part;
 use crate::refusal::Refusal;
 use crate::registers::Width;
 use crate::send::{SendEnd, OUTPUT_SIZE};
@@ -75,6 +76,8 @@ pub struct BenchOn<L> {
     pub gathered: Gathered,
     /// Bytes put out by sends; the bench's lines leave them out.
     pub output: [u8; OUTPUT_SIZE],
+    /// Has any record come: only the first may ask for a part.
+    pub begun: bool,
 }
 
 /// The bench of document 01's chip.
@@ -89,6 +92,7 @@ impl<L: Layout> Default for BenchOn<L> {
             chip: ChipOn::default(),
             gathered: Gathered::default(),
             output: [0; OUTPUT_SIZE],
+            begun: false,
         }
     }
 }
@@ -97,6 +101,7 @@ impl<L: Layout> BenchOn<L> {
     /// Obeys one whole record. "Unused bytes are ignored."
     pub fn step(&mut self, record: &Record) -> Answer {
         let [kind, first, second, third, ..] = *record;
+        let begun = std::mem::replace(&mut self.begun, true);
         match kind {
             1 => self.chip.read(Width::Byte, first),
             2 => self.chip.read(Width::Word, first),
@@ -106,8 +111,18 @@ impl<L: Layout> BenchOn<L> {
             6 => self.end_frame(first),
             7 => self.end_send(first, second, third),
             8 => self.chip.plug(first).map(|()| 0),
+            9 if begun => Err(Refusal::OutsideLimits),
+            9 => self.start(first),
             _ => Err(Refusal::BadRecord),
         }
+    }
+
+    /// "The bench asks for the part by a first record of kind 9, byte 1 being 94h
+    /// or 96h"; "with another byte" it "gets 11", and the LAN91C96 stays.
+    fn start(&mut self, part: u8) -> Answer {
+        let part = Part::named(part).ok_or(Refusal::OutsideLimits)?;
+        self.chip = ChipOn::new(part);
+        Ok(0)
     }
 
     /// "A write returns value 0."

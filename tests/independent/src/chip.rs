@@ -4,6 +4,7 @@ use crate::address::MacAddress;
 use crate::fifo::Fifo;
 use crate::link::Link;
 use crate::memory::{Layout, PacketAddress, PacketNumber, Paged, Strips};
+use crate::part::Part;
 
 /// Bits of TCR that have a rule.
 pub mod tcr {
@@ -163,9 +164,9 @@ impl Default for Registers {
     }
 }
 
-/// The whole chip, at power-up by default. Its rules are the same wherever the
-/// packets' bytes lie.
-#[derive(Clone, Debug, Default)]
+/// The whole chip; by default the LAN91C96, at power-up. Its rules are the same
+/// wherever the packets' bytes lie.
+#[derive(Clone, Debug)]
 pub struct ChipOn<L> {
     pub registers: Registers,
     /// Which packets there are, with their bytes.
@@ -181,7 +182,29 @@ pub type Chip = ChipOn<Paged>;
 /// Request W3: "A straight-strip chip beside the paged one."
 pub type StripChip = ChipOn<Strips>;
 
+impl<L: Layout> Default for ChipOn<L> {
+    fn default() -> Self {
+        Self::new(Part::default())
+    }
+}
+
 impl<L: Layout> ChipOn<L> {
+    /// A part at power-up.
+    pub fn new(part: Part) -> Self {
+        Self {
+            registers: Registers::default(),
+            packets: L::new(part),
+            rx: Fifo::new(part),
+            tx: Fifo::new(part),
+            completion: Fifo::new(part),
+        }
+    }
+
+    /// Which part it is; nothing that happens to a chip makes it another.
+    pub fn part(&self) -> Part {
+        self.packets.part()
+    }
+
     /// "resets everything except the station address and packet memory; RCR
     /// then reads 8000h"; "keeps the link and forgets the change".
     pub fn soft_reset(&mut self) {
@@ -208,7 +231,7 @@ impl<L: Layout> ChipOn<L> {
 
     /// The packet in the packet number register, if it is allocated.
     pub fn selected_packet(&self) -> Option<PacketNumber> {
-        PacketNumber::new(self.registers.packet_number)
+        PacketNumber::new(self.part(), self.registers.packet_number)
             .filter(|&packet| self.packets.is_allocated(packet))
     }
 

@@ -1,5 +1,5 @@
-//! A second model of the LAN91C96, written from documents 01 and 02 and their
-//! decided points alone. It shares no line with the proved model, so a
+//! A second model of the LAN91C96 and the LAN91C94, written from documents 01
+//! and 02 and their decided points alone. It shares no line with the proved model, so a
 //! difference between the two is a slip in one of them.
 
 pub mod address;
@@ -14,6 +14,7 @@ pub mod generator;
 pub mod link;
 pub mod memory;
 pub mod mmu;
+pub mod part;
 pub mod places;
 pub mod random;
 pub mod reads;

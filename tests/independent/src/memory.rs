@@ -12,24 +12,24 @@ pub use marked::Marked;
 pub use paged::{PageNumber, Paged};
 pub use strips::{Strips, STRIP_SIZE};
 
-pub const PAGES: usize = 24;
+use crate::part::Part;
+
 pub const PAGE_SIZE: usize = 256;
-pub const PACKETS: usize = 24;
 pub const MOST_PAGES: usize = 8;
 
-/// A packet, 0 to 23. "A packet number is never a page number, nor is either
+/// A packet of some part. "A packet number is never a page number, nor is either
 /// an address within a packet."
 #[derive(Clone, Copy, Debug, PartialEq, Eq)]
 pub struct PacketNumber(u8);
 
 impl PacketNumber {
-    /// None from 24 on: no such packet is ever allocated.
-    pub fn new(number: u8) -> Option<Self> {
-        (usize::from(number) < PACKETS).then_some(Self(number))
+    /// None from the part's size on: no such packet is ever allocated.
+    pub fn new(part: Part, number: u8) -> Option<Self> {
+        (usize::from(number) < part.packets()).then_some(Self(number))
     }
 
-    pub fn all() -> impl Iterator<Item = Self> {
-        (0..PACKETS as u8).map(Self)
+    pub fn all(part: Part) -> impl Iterator<Item = Self> {
+        (0..part.packets() as u8).map(Self)
     }
 
     pub fn get(self) -> u8 {
@@ -53,7 +53,12 @@ impl PacketAddress {
 
 /// Where packets' bytes lie, and how many pages each packet has. All that does
 /// not ask where a byte lies is here, once for every layout.
-pub trait Layout: Clone + Debug + Default {
+pub trait Layout: Clone + Debug {
+    /// A part's, as at power-up.
+    fn new(part: Part) -> Self;
+
+    fn part(&self) -> Part;
+
     fn free_pages(&self) -> usize;
 
     /// 1 to 8 for a packet that is allocated, else 0.
@@ -79,6 +84,10 @@ pub trait Layout: Clone + Debug + Default {
         self.page_count(packet) > 0
     }
 
+    fn all_free(&self) -> bool {
+        self.free_pages() == self.part().pages()
+    }
+
     /// The packet's size in bytes.
     fn size(&self, packet: PacketNumber) -> usize {
         self.page_count(packet) * PAGE_SIZE
@@ -89,13 +98,13 @@ pub trait Layout: Clone + Debug + Default {
         if self.free_pages() < wanted {
             return None;
         }
-        let packet = PacketNumber::all().find(|&packet| !self.is_allocated(packet))?;
+        let packet = PacketNumber::all(self.part()).find(|&packet| !self.is_allocated(packet))?;
         self.take(packet, wanted);
         Some(packet)
     }
 
     fn release_all(&mut self) {
-        PacketNumber::all().for_each(|packet| self.release(packet));
+        PacketNumber::all(self.part()).for_each(|packet| self.release(packet));
     }
 
     /// "A word takes two bytes, lower first", each found on its own.

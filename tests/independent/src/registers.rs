@@ -1,7 +1,7 @@
 //! Accesses: the register map, and what reading and writing each register does.
 
 use crate::chip::{ephsr, interrupt, rcr, tcr, ChipOn, Pointer};
-use crate::memory::{Layout, PacketAddress, PacketNumber, PAGES};
+use crate::memory::{Layout, PacketAddress, PacketNumber};
 use crate::refusal::Refusal;
 
 /// What reads as nothing in particular: byte F, B of bank 0, banks 5 to 7.
@@ -197,7 +197,11 @@ impl<L: Layout> ChipOn<L> {
             Register::Ephsr => now.shown_ephsr(),
             Register::Rcr => now.rcr,
             Register::Ecr => now.ecr,
-            Register::Mir => pair([PAGES as u8, self.packets.free_pages() as u8]),
+            // "low byte 18h", or 12h: the part's pages
+            Register::Mir => {
+                let pages = [self.part().pages(), self.packets.free_pages()];
+                pair(pages.map(|count| count as u8))
+            }
             Register::Reserved => pair([now.reserved, FILLER]),
             Register::Station(at) => pair([now.station.0[at], now.station.0[at + 1]]),
             Register::Control => now.control,

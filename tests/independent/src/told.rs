@@ -48,7 +48,7 @@ pub fn pool(chip: &Chip) -> Vec<u32> {
             .iter()
             .map(|page: &PageNumber| page.get())
     };
-    let lists = PacketNumber::all().map(|packet| pages(packet).collect::<Vec<_>>());
+    let lists = PacketNumber::all(chip.part()).map(|packet| pages(packet).collect::<Vec<_>>());
     let queues = [&chip.rx, &chip.tx, &chip.completion].map(queue);
     lists.chain(queues).flat_map(counted).collect()
 }

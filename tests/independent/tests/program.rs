@@ -47,16 +47,39 @@ fn answers_each_before_the_next(arguments: &[&str], kinds_and_lines: [(u8, &str)
 
 #[test]
 fn answers_each_record_before_the_next() {
-    let bench = [(2, "1 0 3300\n"), (9, "2 17 0000\n"), (1, "3 0 0000\n")];
+    let bench = [(2, "1 0 3300\n"), (10, "2 17 0000\n"), (1, "3 0 0000\n")];
     answers_each_before_the_next(&[], bench);
     answers_each_before_the_next(&["--strips"], bench);
     let watch = [
         (2, "1 0 3300 0\n"),
-        (9, "2 17 0000 0\n"),
+        (10, "2 17 0000 0\n"),
         (1, "3 0 0000 0\n"),
     ];
     answers_each_before_the_next(&["--watch"], watch);
     answers_each_before_the_next(&["--watch", "--strips"], watch);
+}
+
+/// "The bench asks for the part by a first record of kind 9", whichever lines it
+/// prints and wherever the bytes lie; the mask is 0, so the line is down.
+#[test]
+fn a_first_record_asks_for_the_part() {
+    let mir = [2, 0x8, 0, 0, 0, 0, 0, 0];
+    let parts = [
+        (0x94, "1 0 0000\n2 0 1212\n3 11 0000\n4 0 1212\n"),
+        (0x96, "1 0 0000\n2 0 1818\n3 11 0000\n4 0 1818\n"),
+        (0x95, "1 11 0000\n2 0 1818\n3 11 0000\n4 0 1818\n"),
+    ];
+    for (byte, expected) in parts {
+        let [asked, again] = [byte, 0x94].map(|byte| [9, byte, 1, 2, 3, 4, 5, 6]);
+        let input = [asked, mir, again, mir];
+        for bench in [&[][..], &["--strips"]] {
+            assert_eq!(lines(bench, input.as_flattened()), expected);
+        }
+        for watch in [&["--watch"][..], &["--strips", "--watch"]] {
+            let expected = expected.replace('\n', " 0\n");
+            assert_eq!(lines(watch, input.as_flattened()), expected);
+        }
+    }
 }
 
 /// "record cut short": one line, whether 1 or 7 bytes are left.
@@ -80,7 +103,7 @@ fn a_tail_has_the_line_as_it_is_then() {
     let records: [[u8; 8]; 3] = [
         [3, 0xe, 2, 0, 0, 0, 0, 0],
         [3, 0xd, 4, 0, 0, 0, 0, 0],
-        [9, 0xd, 0, 0, 0, 0, 0, 0],
+        [10, 0xd, 0, 0, 0, 0, 0, 0],
     ];
     for tail in 1..8 {
         let input = [records.as_flattened(), &[3, 0xd, 0, 0, 0, 0, 0][..tail]].concat();

@@ -100,7 +100,7 @@ fn count_reset(tables: &mut Tables, before: &Chip) {
         ("table", now.multicast != fresh.multicast),
         ("link up", now.link.up),
         ("link changed", now.link.changed),
-        ("pages", before.packets.free_pages() < 24),
+        ("pages", !before.packets.all_free()),
         ("RX", !before.rx.is_empty()),
         ("TX", !before.tx.is_empty()),
         ("completion", !before.completion.is_empty()),

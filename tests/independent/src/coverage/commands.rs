@@ -51,7 +51,7 @@ fn allocation_meets(seen: &Seen) -> Vec<&'static str> {
 
 fn clearing_meets(before: &Chip) -> Vec<&'static str> {
     those(&[
-        (before.packets.free_pages() < 24, "pages"),
+        (!before.packets.all_free(), "pages"),
         (before.registers.result.is_some(), "result"),
         (before.registers.waiting.is_some(), "waiting request"),
         (!before.rx.is_empty(), "RX"),
@@ -81,7 +81,7 @@ fn removal_meets(seen: &Seen) -> Vec<&'static str> {
 fn packet_meets(seen: &Seen) -> Vec<&'static str> {
     let before = &seen.before.chip;
     let number = before.registers.packet_number;
-    let in_range = PacketNumber::new(number);
+    let in_range = PacketNumber::new(before.part(), number);
     let within = |queue: &crate::fifo::Fifo| in_range.is_some_and(|packet| queue.contains(packet));
     match seen.answer {
         Ok(_) => those(&[

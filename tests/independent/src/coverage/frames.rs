@@ -90,7 +90,8 @@ fn stored_length(chip: &Chip, frame: &[u8]) -> usize {
     }
 }
 
-fn room_needed(chip: &Chip, frame: &[u8]) -> usize {
+/// The pages that a frame needs, with those reserved.
+pub fn room_needed(chip: &Chip, frame: &[u8]) -> usize {
     pages_needed(stored_length(chip, frame)) + usize::from(chip.registers.reserved)
 }
 

@@ -8,6 +8,7 @@ mod counts;
 mod data;
 mod frames;
 mod link;
+mod parts;
 mod sends;
 mod states;
 mod strips;
@@ -43,6 +44,7 @@ pub struct Coverage {
     requests: waiting::History,
     counts: counts::History,
     link: link::History,
+    parts: parts::History,
     strips: strips::History,
     tables: Tables,
 }
@@ -54,6 +56,7 @@ impl Coverage {
         self.requests = waiting::History::default();
         self.counts = counts::History::default();
         self.link = link::History::default();
+        self.parts = parts::History::default();
         self.strips = strips::History::default();
         for record in records {
             self.step(record);
@@ -81,6 +84,7 @@ impl Coverage {
         counts::count(tables, &mut self.counts, &seen);
         waiting::count(tables, &mut self.requests, &seen);
         link::count(tables, &mut self.link, &seen);
+        parts::count(tables, &mut self.parts, &seen);
         strips::count(tables, &mut self.strips, &seen);
         states::count(tables, &self.bench.chip);
     }
@@ -108,10 +112,10 @@ fn answer_name(answer: Answer) -> String {
 
 fn kind_name(kind: u8) -> String {
     let names = ["read byte", "read word", "write byte", "write word"];
-    let events = ["wire bytes", "frame ends", "send", "link"];
+    let events = ["wire bytes", "frame ends", "send", "link", "part"];
     match kind {
         1..=4 => format!("{kind} {}", names[usize::from(kind - 1)]),
-        5..=8 => format!("{kind} {}", events[usize::from(kind - 5)]),
+        5..=9 => format!("{kind} {}", events[usize::from(kind - 5)]),
         _ => "unknown kind".into(),
     }
 }

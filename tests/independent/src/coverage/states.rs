@@ -105,5 +105,5 @@ fn names_freed(chip: &Chip) -> bool {
 }
 
 fn has_pieces(chip: &Chip) -> bool {
-    PacketNumber::all().any(|packet| in_pieces(chip.packets.pages(packet)))
+    PacketNumber::all(chip.part()).any(|packet| in_pieces(chip.packets.pages(packet)))
 }

@@ -33,7 +33,7 @@ pub fn count(tables: &mut Tables, history: &mut History, seen: &Seen) {
     let granted = history.packets(|history, packet| history.grants(packet));
     let allocated = history.packets(|history, packet| history.is_allocated(packet));
     let strip_answer = history.step(seen.record);
-    for (index, packet) in PacketNumber::all().enumerate() {
+    for (index, packet) in PacketNumber::all(seen.after.chip.part()).enumerate() {
         if history.grants(packet) > granted[index] {
             count_grant(tables, history, seen, packet, allocated[index]);
         }
@@ -59,7 +59,9 @@ impl History {
     }
 
     fn packets<T>(&self, of: impl Fn(&Self, PacketNumber) -> T) -> Vec<T> {
-        PacketNumber::all().map(|packet| of(self, packet)).collect()
+        PacketNumber::all(self.paged.chip.part())
+            .map(|packet| of(self, packet))
+            .collect()
     }
 
     fn grants(&self, packet: PacketNumber) -> usize {

@@ -1,5 +1,6 @@
 //! Frames: every length and value, every address, every way to be stored.
 
+use super::parts;
 use super::script::Script;
 use super::sends;
 use crate::address::MacAddress;
@@ -100,6 +101,7 @@ pub fn not_accepted(script: &mut Script) {
     set_table(script, 1 << 17);
     knock(script, individual);
     set_table(script, !(1 << 17));
+    knock(script, individual);
     let group = address(script, true, 17);
     knock(script, group);
     set_table(script, 0);
@@ -147,13 +149,14 @@ fn look(script: &mut Script) {
 
 /// Every length with every value but stored.
 pub fn lengths_dropped(script: &mut Script) {
+    let _ = script.say(&[10, 0x94]); // so that no part is asked for in time
     for length in [1, 12, 17] {
         script.frame(STATION, length, 0);
     }
     let _ = script.say(&[6, 0]);
     set_up(script, 0);
     script.frame(STATION, 17, 0);
-    let _ = script.say(&[9, 1]);
+    parts::ask_again(script);
     let _ = script.say(&[0, 1]);
     let _ = script.say(&[255, 1]);
     for length in LENGTHS {

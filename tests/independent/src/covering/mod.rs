@@ -9,6 +9,7 @@ mod data;
 mod frames;
 mod interrupts;
 mod link;
+mod parts;
 mod registers;
 mod resets;
 mod script;
@@ -18,6 +19,7 @@ mod waiting;
 use crate::bench::Record;
 use crate::chip::{control, tcr};
 use crate::link::Link;
+use crate::part::Part;
 use script::Script;
 use waiting::Giver;
 
@@ -98,6 +100,10 @@ const SCENARIOS: &[(&str, Scenario)] = &[
     ("link-raised", link::raised),
     ("link-enabled", link::enabled_by),
     ("link-shown", link::shown),
+    ("part-94", |script| parts::limits(script, Part::Lan91c94)),
+    ("part-96", |script| parts::limits(script, Part::Lan91c96)),
+    ("part-94-full", parts::full),
+    ("part-refused", parts::refused),
 ];
 
 const DOWN: Link = Link {

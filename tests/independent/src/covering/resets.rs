@@ -1,5 +1,6 @@
 //! Soft resets, of a chip on which everything is set.
 
+use super::parts;
 use super::script::{Bytes, Script};
 use crate::address::MacAddress;
 use crate::chip::{control, rcr, tcr, Pointer};
@@ -17,6 +18,7 @@ pub fn play(script: &mut Script) {
         script.put_bytes(RCR, bytes, rcr::SOFT_RESET | noise);
         look(script);
     }
+    parts::ask_again(script);
     script.put(RCR, 0);
     look(script);
 }

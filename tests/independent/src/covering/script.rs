@@ -223,6 +223,11 @@ impl Script {
         let _ = self.say(&[8, state]);
     }
 
+    /// A record of kind 9, which asks for a part.
+    pub fn ask(&mut self, byte: u8) {
+        let _ = self.say(&[9, byte]);
+    }
+
     /// Sets TXENA and the other bits of TCR.
     pub fn enable(&mut self, bits: u16) {
         self.put(TCR, bits | crate::chip::tcr::TXENA);

@@ -164,7 +164,7 @@ impl Generator {
         &mut self,
         fits: impl Fn(&Self, PacketNumber) -> bool,
     ) -> Option<PacketNumber> {
-        let fitting: Vec<_> = PacketNumber::all()
+        let fitting: Vec<_> = PacketNumber::all(self.chip().part())
             .filter(|&packet| self.chip().packets.is_allocated(packet) && fits(self, packet))
             .collect();
         (!fitting.is_empty()).then(|| self.random.pick(&fitting))

@@ -5,6 +5,7 @@ mod checks;
 mod counts;
 mod driver;
 mod link;
+mod part;
 mod probe;
 mod receive;
 mod setup;
@@ -15,6 +16,7 @@ mod written;
 use crate::bench::{BenchOn, Record, RECORD_SIZE};
 use crate::chip::ChipOn;
 use crate::memory::{Marked, Paged};
+use crate::part::Part;
 use crate::random::Random;
 pub use written::Reading;
 
@@ -25,7 +27,15 @@ pub fn records(seed: u64, count: usize) -> Vec<Record> {
 
 /// The same, of records that may read only these bytes.
 pub fn records_reading(reading: Reading, seed: u64, count: usize) -> Vec<Record> {
+    stream(None, reading, seed, count)
+}
+
+/// The same; the first record asks for the part, if one is given.
+pub fn stream(part: Option<Part>, reading: Reading, seed: u64, count: usize) -> Vec<Record> {
     let mut generator = Generator::new(reading, seed, count);
+    if let Some(part) = part {
+        generator.start(part);
+    }
     generator.configure_all();
     while generator.records.len() < count {
         generator.play_scene();
@@ -39,7 +49,7 @@ pub fn tail(seed: u64) -> [u8; RECORD_SIZE - 1] {
     let mut random = Random::new(!seed);
     let mut bytes = [0; RECORD_SIZE - 1];
     bytes.fill_with(|| random.byte());
-    bytes[0] = random.between(1, 8) as u8;
+    bytes[0] = random.between(1, 9) as u8;
     bytes
 }
 
@@ -76,6 +86,7 @@ const SCENES: &[Scene] = &[
     (3, Generator::fill_completion),
     (3, Generator::stop_counters),
     (1, Generator::fill_rx),
+    (4, Generator::use_up_numbers),
     (1, Generator::read_whole_page),
 ];
 

@@ -17,9 +17,16 @@ impl Generator {
     /// Data accesses under every combination of the pointer's bits, at the
     /// packet's borders.
     pub fn walk_pointer(&mut self) {
-        if !self.random.one_in(5) {
-            if let Some(packet) = self.pick_packet(|_, _| true) {
-                self.select_packet(packet.get());
+        match self.random.between(0, 24) {
+            0 => {
+                let number = self.no_packet();
+                self.select_packet(number);
+            }
+            1..=4 => {}
+            _ => {
+                if let Some(packet) = self.pick_packet(|_, _| true) {
+                    self.select_packet(packet.get());
+                }
             }
         }
         let mut flags = self.random.word() & Pointer::READ;
@@ -113,7 +120,9 @@ impl Generator {
                 gap: pair[1].get() != pair[0].get() + 1,
             })
         };
-        PacketNumber::all().flat_map(borders).collect()
+        PacketNumber::all(packets.part())
+            .flat_map(borders)
+            .collect()
     }
 
     /// "the address grows by the width, modulo 2,048".
@@ -150,17 +159,18 @@ impl Generator {
         self.look_at(0, 256 * page, 128);
     }
 
-    /// The whole memory, through three packets of eight pages: so that no byte
-    /// differs unseen.
+    /// The whole memory, through packets of eight pages and of what is left: so
+    /// that no byte differs unseen.
     pub fn read_whole_memory(&mut self) {
         if self.reading == Reading::Written {
             return self.free_all();
         }
         self.command(FREE_ALL);
-        for _ in 0..3 {
-            self.command(ALLOCATE + 7);
+        while self.chip().packets.free_pages() > 0 {
+            let pages = self.chip().packets.free_pages().min(8);
+            self.command(ALLOCATE + pages as u8 - 1);
             self.select_packet(self.chip().registers.result.map_or(0, PacketNumber::get));
-            self.look_at(0, 0, 1_024);
+            self.look_at(0, 0, 128 * pages);
         }
     }
 
@@ -214,14 +224,14 @@ impl Generator {
     /// Releases and enqueues of packets that are queued, free or no packets.
     pub fn trouble_queues(&mut self) {
         let number = match self.random.between(0, 5) {
-            0 => self.random.between(24, 63) as u8,
-            1 => self.random.between(0, 23) as u8,
+            0 => self.no_packet(),
+            1 => self.random.between(0, self.size() - 1) as u8,
             2 => self.chip().rx.port(),
             3 => self.chip().tx.port(),
             4 => self.chip().completion.port(),
             _ => self
                 .pick_packet(|now, packet| now.chip().is_queued(packet))
-                .map_or(23, PacketNumber::get),
+                .map_or(self.size() as u8 - 1, PacketNumber::get),
         };
         self.select_packet(number & 0x3f);
         let command = self.random.pick(&[RELEASE, ENQUEUE]);
@@ -249,15 +259,17 @@ impl Generator {
         self.get(PACKET);
     }
 
-    /// Unknown kinds, wrong counts, frames of nothing, sends out of limits.
+    /// Unknown kinds, wrong counts, frames of nothing, parts asked for too late,
+    /// sends out of limits.
     pub fn odd_record(&mut self) {
-        match self.random.between(0, 5) {
+        match self.random.between(0, 6) {
             0..=1 => {
-                let kind = self.random.pick(&[0, 9, 10, 11, 128, 255]);
+                let kind = self.random.pick(&[0, 10, 11, 12, 128, 255]);
                 self.say(&[kind]);
             }
             2 => self.wrong_count(),
             3 => self.say(&[6]),
+            4 => self.ask_for_part(),
             _ => self.send(),
         }
     }
@@ -268,7 +280,7 @@ impl Generator {
             let mut record = [0; 8];
             record.fill_with(|| self.random.byte());
             if !self.random.one_in(10) {
-                record[0] = self.random.between(1, 8) as u8;
+                record[0] = self.random.between(1, 9) as u8;
                 record[1] %= 18;
             }
             self.emit(record);

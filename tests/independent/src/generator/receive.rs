@@ -123,6 +123,9 @@ impl Generator {
             if self.random.one_in(150) {
                 self.plug(); // and a cable may be pulled
             }
+            if self.random.one_in(300) {
+                self.ask_for_part(); // in vain, and they are still there
+            }
         }
     }
 

@@ -135,7 +135,7 @@ impl Generator {
 
     fn set_reserved(&mut self) {
         let small = [0, 0, 0, 0, 0, 0, 0, 1, 1, 2, 3, 4, 6, 8];
-        let large = [12, 16, 17, 18, 22, 23, 24, 25, 127, 255];
+        let large = [12, 16, 17, 18, 19, 22, 23, 24, 25, 127, 255];
         let value = match self.random.one_in(6) {
             true => self.random.pick(&large),
             false => self.random.pick(&small),
@@ -193,6 +193,9 @@ impl Generator {
             self.select(RCR.0);
             let low = self.random.byte();
             self.write_byte(RCR.1, low);
+        }
+        if self.random.one_in(3) {
+            self.ask_for_part(); // a reset is no power-up
         }
         self.look_at_reset();
         self.configure_all();

@@ -213,7 +213,7 @@ impl Generator {
     }
 
     /// "25 sends of packet 0, each enqueued again and none acknowledged, end
-    /// in 14", whatever the packet.
+    /// in 14", whatever the packet; on the LAN91C94 19.
     pub fn fill_completion(&mut self) {
         let Some(packet) = self.steady_packet() else {
             return self.tidy();
@@ -287,7 +287,8 @@ impl Generator {
 
     /// Releases idle packets, drains RX or sends when pages run low.
     pub fn tidy(&mut self) {
-        let pages = self.random.between(8, 16);
+        let third = self.size() / 3;
+        let pages = self.random.between(third, 2 * third);
         self.make_room(pages);
     }
 

@@ -83,7 +83,7 @@ impl Generator {
     }
 
     /// A frame of one page or two, stored if they are free and not reserved.
-    fn broadcast(&mut self, pages: usize) {
+    pub fn broadcast(&mut self, pages: usize) {
         let now = self.chip().registers.rcr;
         if now & rcr::RXEN == 0 {
             self.put_rcr(now & !rcr::SOFT_RESET | rcr::RXEN);
@@ -167,6 +167,17 @@ impl Generator {
         self.look_at_request();
     }
 
+    /// A request for a page where none is free, and something given back.
+    pub fn ask_for_one_more(&mut self) {
+        let giver = self.random.pick(&GIVERS);
+        self.command(ALLOCATE);
+        self.look_at_request();
+        if self.random.one_in(2) {
+            self.meet_frame();
+        }
+        self.give_until_granted(giver);
+    }
+
     /// How many pages the next packet gives back, 1 where that is not known.
     fn pages_to_come(&mut self, giver: Giver) -> usize {
         let packet = match giver {
@@ -185,7 +196,7 @@ impl Generator {
 
     /// Something that mostly leaves the request waiting.
     fn meet_something(&mut self) {
-        match self.random.between(0, 19) {
+        match self.random.between(0, 20) {
             0..=4 => self.meet_frame(),
             5..=6 => self.release_too_few(),
             7..=8 => {
@@ -199,6 +210,7 @@ impl Generator {
             16 => self.command(REMOVE_RX),
             17 => self.trouble_queues(),
             18 => self.odd_command(),
+            19 => self.ask_for_part(),
             _ => self.odd_record(),
         }
         if self.random.one_in(2) {

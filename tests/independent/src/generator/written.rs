@@ -190,7 +190,8 @@ impl Generator {
 
     /// The size of the packet with the number below, 0 if there is none.
     fn size_below(&self, packet: PacketNumber) -> usize {
-        let below = packet.get().checked_sub(1).and_then(PacketNumber::new);
+        let below = packet.get().checked_sub(1);
+        let below = below.and_then(|number| PacketNumber::new(self.chip().part(), number));
         below.map_or(0, |below| self.chip().packets.size(below))
     }
 

@@ -1,7 +1,8 @@
 //! Request W3's "bytes written since its packet was allocated", noted where
 //! bytes are written and packets allocated.
 
-use super::{Layout, PacketAddress, PacketNumber, PACKETS, STRIP_SIZE};
+use super::{Layout, PacketAddress, PacketNumber, STRIP_SIZE};
+use crate::part::Part;
 
 /// What is remembered of a packet number.
 #[derive(Clone, Debug)]
@@ -29,15 +30,6 @@ impl Default for Marks {
 pub struct Marked<L> {
     layout: L,
     marks: Vec<Marks>,
-}
-
-impl<L: Default> Default for Marked<L> {
-    fn default() -> Self {
-        Self {
-            layout: L::default(),
-            marks: vec![Marks::default(); PACKETS],
-        }
-    }
 }
 
 impl<L: Layout> Marked<L> {
@@ -79,6 +71,17 @@ impl<L: Layout> Marked<L> {
 }
 
 impl<L: Layout> Layout for Marked<L> {
+    fn new(part: Part) -> Self {
+        Self {
+            layout: L::new(part),
+            marks: vec![Marks::default(); part.packets()],
+        }
+    }
+
+    fn part(&self) -> Part {
+        self.layout.part()
+    }
+
     fn free_pages(&self) -> usize {
         self.layout.free_pages()
     }

@@ -1,8 +1,10 @@
-//! "24 pages of 256 bytes, 6,144 in all", and who owns which page.
+//! "24 pages of 256 bytes, 6,144 in all", or "18 pages, .. 4,608 bytes", and who
+//! owns which page.
 
-use super::{Layout, PacketAddress, PacketNumber, MOST_PAGES, PACKETS, PAGES, PAGE_SIZE};
+use super::{Layout, PacketAddress, PacketNumber, MOST_PAGES, PAGE_SIZE};
+use crate::part::Part;
 
-/// A page of the packet memory, 0 to 23.
+/// A page of the packet memory.
 #[derive(Clone, Copy, Debug, Default, PartialEq, Eq)]
 pub struct PageNumber(u8);
 
@@ -40,17 +42,15 @@ impl PageList {
     }
 }
 
-/// "At power-up the memory is 6,144 zero bytes." Nothing ever clears it.
+/// "At power-up the memory is 6,144 zero bytes", or 4,608. Nothing ever clears it.
 #[derive(Clone, Debug)]
-struct Memory([u8; PAGES * PAGE_SIZE]);
-
-impl Default for Memory {
-    fn default() -> Self {
-        Self([0; PAGES * PAGE_SIZE])
-    }
-}
+struct Memory(Vec<u8>);
 
 impl Memory {
+    fn new(part: Part) -> Self {
+        Self(vec![0; part.pages() * PAGE_SIZE])
+    }
+
     fn page(&self, page: PageNumber) -> &[u8] {
         &self.0[page.start()..][..PAGE_SIZE]
     }
@@ -61,9 +61,10 @@ impl Memory {
 }
 
 /// The memory, and which pages each packet owns.
-#[derive(Clone, Debug, Default)]
+#[derive(Clone, Debug)]
 pub struct Paged {
-    lists: [PageList; PACKETS],
+    part: Part,
+    lists: Vec<PageList>,
     memory: Memory,
 }
 
@@ -82,18 +83,27 @@ impl Paged {
         self.pages(packet)[page].start() + offset
     }
 
-    fn taken(&self) -> [bool; PAGES] {
-        let mut taken = [false; PAGES];
-        for page in self.lists.iter().flat_map(|list| list.as_slice()) {
-            taken[usize::from(page.0)] = true;
-        }
-        taken
+    fn is_free(&self, page: PageNumber) -> bool {
+        let owns = |list: &PageList| list.as_slice().contains(&page);
+        !self.lists.iter().any(owns)
     }
 }
 
 impl Layout for Paged {
+    fn new(part: Part) -> Self {
+        Self {
+            part,
+            lists: vec![PageList::default(); part.packets()],
+            memory: Memory::new(part),
+        }
+    }
+
+    fn part(&self) -> Part {
+        self.part
+    }
+
     fn free_pages(&self) -> usize {
-        PAGES - self.lists.iter().map(|list| list.len).sum::<usize>()
+        self.part.pages() - self.lists.iter().map(|list| list.len).sum::<usize>()
     }
 
     fn page_count(&self, packet: PacketNumber) -> usize {
@@ -102,12 +112,12 @@ impl Layout for Paged {
 
     /// "pages are the lowest free ones".
     fn take(&mut self, packet: PacketNumber, pages: usize) {
-        let taken = self.taken();
         let mut list = PageList::default();
-        (0..PAGES as u8)
-            .filter(|&page| !taken[usize::from(page)])
+        (0..self.part.pages() as u8)
+            .map(PageNumber)
+            .filter(|&page| self.is_free(page))
             .take(pages)
-            .for_each(|page| list.push(PageNumber(page)));
+            .for_each(|page| list.push(page));
         self.lists[packet.index()] = list;
     }
 
@@ -122,7 +132,8 @@ impl Layout for Paged {
 
     #[inline]
     fn set_byte(&mut self, packet: PacketNumber, address: PacketAddress, byte: u8) {
-        self.memory.0[self.place(packet, address)] = byte;
+        let place = self.place(packet, address);
+        self.memory.0[place] = byte;
     }
 
     /// Page by page.

@@ -1,27 +1,20 @@
 //! Request W3: "each packet in its own strip of 2,048 bytes, 24 strips, and of
-//! pages only how many are free and how many each packet has, 24 in sum".
+//! pages only how many are free and how many each packet has, 24 in sum"; of the
+//! LAN91C94 18 of either.
 
-use super::{Layout, PacketAddress, PacketNumber, MOST_PAGES, PACKETS, PAGES, PAGE_SIZE};
+use super::{Layout, PacketAddress, PacketNumber, MOST_PAGES, PAGE_SIZE};
+use crate::part::Part;
 
 pub const STRIP_SIZE: usize = MOST_PAGES * PAGE_SIZE;
 
-/// The strips one after another, 49,152 bytes, and the pages as mere numbers.
-/// The strips "start at zero and keep their bytes over release and reset".
+/// The strips one after another, 49,152 bytes or 36,864, and the pages as mere
+/// numbers. The strips "start at zero and keep their bytes over release and reset".
 #[derive(Clone, Debug)]
 pub struct Strips {
-    bytes: [u8; PACKETS * STRIP_SIZE],
+    part: Part,
+    bytes: Vec<u8>,
     free: usize,
-    counts: [usize; PACKETS],
-}
-
-impl Default for Strips {
-    fn default() -> Self {
-        Self {
-            bytes: [0; PACKETS * STRIP_SIZE],
-            free: PAGES,
-            counts: [0; PACKETS],
-        }
-    }
+    counts: Vec<usize>,
 }
 
 impl Strips {
@@ -37,6 +30,19 @@ impl Strips {
 }
 
 impl Layout for Strips {
+    fn new(part: Part) -> Self {
+        Self {
+            part,
+            bytes: vec![0; part.packets() * STRIP_SIZE],
+            free: part.pages(),
+            counts: vec![0; part.packets()],
+        }
+    }
+
+    fn part(&self) -> Part {
+        self.part
+    }
+
     fn free_pages(&self) -> usize {
         self.free
     }

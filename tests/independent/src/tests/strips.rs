@@ -7,7 +7,8 @@ use crate::bench::{numbers, Answer, Bench, BenchOn, Record, StripBench};
 use crate::chip::ChipOn;
 use crate::fifo::Fifo;
 use crate::generator::{self, Reading};
-use crate::memory::{Layout, Marked, PacketNumber, Paged, Strips, PAGES};
+use crate::memory::{Layout, Marked, PacketNumber, Paged, Strips};
+use crate::part::Part;
 use crate::told;
 use crate::watch;
 
@@ -32,7 +33,7 @@ impl Pair {
     /// "the two agree on every byte so written".
     fn agree_on_written_bytes(&self) {
         let (paged, strips) = (&self.paged.chip.packets, &self.strips.chip.packets);
-        for packet in PacketNumber::all() {
+        for packet in PacketNumber::all(paged.part()) {
             assert!(paged.written(packet).eq(strips.written(packet)));
             for address in paged.written(packet) {
                 assert_eq!(paged.byte(packet, address), strips.byte(packet, address));
@@ -43,7 +44,7 @@ impl Pair {
 
 /// Registers, page counts and queues.
 fn state<L: Layout>(chip: &ChipOn<L>) -> Vec<u32> {
-    let pages = PacketNumber::all().map(|packet| chip.packets.page_count(packet));
+    let pages = PacketNumber::all(chip.part()).map(|packet| chip.packets.page_count(packet));
     let queue = |fifo: &Fifo| fifo.entries().map(|packet| packet.get()).collect();
     let queues: [Vec<u8>; 3] = [&chip.rx, &chip.tx, &chip.completion].map(queue);
     let mut state = told::registers(&chip.registers);
@@ -66,19 +67,22 @@ fn watched<L: Layout>(records: &[Record]) -> String {
     String::from_utf8(lines).unwrap()
 }
 
+/// No part is asked for, or either.
+const ASKED: [Option<Part>; 3] = [None, Some(Part::Lan91c94), Some(Part::Lan91c96)];
+
 #[test]
 fn lines_agree_where_only_written_bytes_are_read() {
-    for seed in 1..9 {
-        let stream = generator::records_reading(Reading::Written, seed, 10_000);
+    for (seed, part) in (1..9).zip(ASKED.into_iter().cycle()) {
+        let stream = generator::stream(part, Reading::Written, seed, 10_000);
         assert_eq!(watched::<Paged>(&stream), watched::<Strips>(&stream));
     }
 }
 
 #[test]
 fn the_promise_after_each_record() {
-    for seed in 1..5 {
+    for (seed, part) in (1..5).zip(ASKED.into_iter().cycle()) {
         let mut pair = Pair::default();
-        let stream = generator::records_reading(Reading::WrittenBySends, seed, 10_000);
+        let stream = generator::stream(part, Reading::WrittenBySends, seed, 10_000);
         for (number, record) in (1..).zip(stream) {
             let unwritten = pair.paged.unwritten(&record);
             assert!(record[0] != 7 || unwritten.is_none());
@@ -149,15 +153,18 @@ fn written_streams_meet_every_answer() {
     assert_eq!(arrivals, (0..=5).collect());
 }
 
-/// "of pages only how many are free and how many each packet has, 24 in sum".
+/// "of pages only how many are free and how many each packet has, 24 in sum", or
+/// 18.
 #[test]
-fn the_numbers_of_pages_are_24_in_sum() {
-    let mut bench = StripBench::default();
-    for record in generator::records(2, 20_000) {
-        let _ = bench.step(&record);
-        let packets = &bench.chip.packets;
-        let counts = PacketNumber::all().map(|packet| packets.page_count(packet));
-        assert_eq!(packets.free_pages() + counts.sum::<usize>(), PAGES);
+fn the_numbers_of_pages_in_sum() {
+    for (part, sum) in ASKED.into_iter().zip([24, 18, 24]) {
+        let mut bench = StripBench::default();
+        for record in generator::stream(part, Reading::Free, 2, 20_000) {
+            let _ = bench.step(&record);
+            let packets = &bench.chip.packets;
+            let counts = PacketNumber::all(packets.part()).map(|packet| packets.page_count(packet));
+            assert_eq!(packets.free_pages() + counts.sum::<usize>(), sum);
+        }
     }
 }
 

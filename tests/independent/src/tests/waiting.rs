@@ -59,7 +59,7 @@ fn granted(chip: &mut Chip, packet: u16, pages: &[u8]) {
 }
 
 fn pages_of(chip: &Chip, packet: u16) -> Vec<u8> {
-    let packet = PacketNumber::new(packet as u8).unwrap();
+    let packet = PacketNumber::new(chip.part(), packet as u8).unwrap();
     let pages = chip.packets.pages(packet);
     pages.iter().map(|page| page.get()).collect()
 }

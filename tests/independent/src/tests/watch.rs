@@ -30,7 +30,7 @@ fn the_line_is_that_after_the_record() {
     let records = [
         &[3, 0xe, 2][..],
         &[3, 0xd, 0x04], // TX EMPTY
-        &[9],
+        &[10],
         &[2, 0xc],
         &[3, 0xc, 0x04], // acknowledged
         &[0],

@@ -3,6 +3,7 @@
 use super::record;
 use crate::bench::{numbers, BenchOn};
 use crate::memory::{Marked, PacketAddress, PacketNumber, Paged};
+use crate::part::Part;
 use crate::wire::{self, Check};
 
 type MarkedBench = BenchOn<Marked<Paged>>;
@@ -24,7 +25,7 @@ fn play(bench: &mut MarkedBench, records: &[&[u8]]) {
 }
 
 fn packet(number: u8) -> PacketNumber {
-    PacketNumber::new(number).unwrap()
+    PacketNumber::new(Part::Lan91c96, number).unwrap()
 }
 
 /// Where a packet was written since its grant.
