@@ -4,7 +4,9 @@
 use libc::STDIN_FILENO;
 use libc::STDOUT_FILENO;
 use state::Answer;
+use state::Part;
 use state::Width;
+ghost use mathlib.Core.Path.{_≡_};
 ghost use Prim.Native.Nat.{_/_, _<_};
 ghost use lib.ListN.{length};
 ghost use Rattle.state.specs.Entry.{InOrder};
@@ -53,8 +55,8 @@ fn answer_one(
     frame: &[u8],
     record: Record,
 ) -> Answer
-    requires { ⌜ InOrder (now words) (now sets) (now queues) (now memory) ⌝ }
-    ensures { λ _. ⌜ InOrder (now (words .exit)) (now (sets .exit)) (now (queues .exit)) (now (memory .exit)) ⌝ }
+    requires { ⌜ InOrder (now words) (now sets) (now queues) (now memory) × (length (now sets) ≡ 24) ⌝ }
+    ensures { λ _. ⌜ InOrder (now (words .exit)) (now (sets .exit)) (now (queues .exit)) (now (memory .exit)) × (length (now (sets .exit)) ≡ 24) ⌝ }
 {
     let kind = record.kind;
     match kind {
@@ -83,8 +85,8 @@ fn answer_all(
     input: &[u8],
     sum: &mut u64,
 )
-    requires { ⌜ InOrder (now words) (now sets) (now queues) (now memory) ⌝ }
-    ensures { λ _. ⌜ InOrder (now (words .exit)) (now (sets .exit)) (now (queues .exit)) (now (memory .exit)) ⌝ }
+    requires { ⌜ InOrder (now words) (now sets) (now queues) (now memory) × (length (now sets) ≡ 24) ⌝ }
+    ensures { λ _. ⌜ InOrder (now (words .exit)) (now (sets .exit)) (now (queues .exit)) (now (memory .exit)) × (length (now (sets .exit)) ≡ 24) ⌝ }
 {
     for k in 0..input.len() / 8 {
         let record = record_at(input, k);
@@ -101,7 +103,7 @@ fn answer_rounds(
     frame: &[u8],
     input: &[u8],
 ) -> u64
-    requires { ⌜ InOrder (now words) (now sets) (now queues) (now memory) ⌝ }
+    requires { ⌜ InOrder (now words) (now sets) (now queues) (now memory) × (length (now sets) ≡ 24) ⌝ }
 {
     let mut sum = 0;
     let mut left = ROUNDS;
@@ -123,7 +125,7 @@ fn fill(frame: &mut [u8]) {
 
 // The rounds from power-up on.
 fn run(input: &[u8]) -> u64 {
-    let start = chip::power_up();
+    let start = chip::power_up(Part::Lan91c96);
     let registers = start.registers;
     let pages = start.pages;
     let fifos = start.queues;

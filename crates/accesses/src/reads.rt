@@ -27,7 +27,7 @@ use state::TCR;
 use state::Width;
 ghost use mathlib.Core.Path.{_≡_};
 ghost use mathlib.Core.List.{List};
-ghost use Prim.Native.Nat.{ℕ, _/_};
+ghost use Prim.Native.Nat.{ℕ, _*_, _/_};
 ghost use lib.ListN.{length};
 ghost use Rattle.rules.specs.Chip.{Layout};
 ghost use Rattle.rules.specs.Registers as rules;
@@ -88,7 +88,7 @@ pub fn read(
     width: Width,
     offset: u8,
 ) -> Answer
-    requires { ⌜ Ready (now words) (now sets) (now queues) × (length (now memory) ≡ 6144) ⌝ }
+    requires { ⌜ Ready (now words) (now sets) (now queues) × (length (now memory) ≡ 256 * length (now sets)) ⌝ }
     ensures { λ a. ⌜ Makes (rules.access (rules.read (widthOf width) offset) (view (now (words .entry)) (now (sets .entry)) (now (queues .entry)) (now (memory .entry)))) a (now (words .exit)) (now (sets .entry)) (now (queues .entry)) (now (memory .entry)) ⌝ }
 {
     if state::misplaced(width, offset) {

@@ -26,7 +26,7 @@ use state::TCR;
 use state::Width;
 ghost use mathlib.Core.Path.{_≡_};
 ghost use mathlib.Core.List.{List};
-ghost use Prim.Native.Nat.{ℕ, _/_};
+ghost use Prim.Native.Nat.{ℕ, _*_, _/_};
 ghost use lib.ListN.{length};
 ghost use Rattle.rules.specs.Chip.{Layout};
 ghost use Rattle.rules.specs.Registers as rules;
@@ -98,7 +98,7 @@ pub fn write(
     offset: u8,
     value: u16,
 ) -> Answer
-    requires { ⌜ Ready (now words) (now sets) (now queues) × (length (now memory) ≡ 6144) ⌝ }
+    requires { ⌜ Ready (now words) (now sets) (now queues) × (length (now memory) ≡ 256 * length (now sets)) ⌝ }
     ensures { λ a. ⌜ Makes (rules.access (rules.write (widthOf width) offset value) (view (now (words .entry)) (now (sets .entry)) (now (queues .entry)) (now (memory .entry)))) a (now (words .exit)) (now (sets .exit)) (now (queues .exit)) (now (memory .exit)) ⌝ }
 {
     if state::misplaced(width, offset) {

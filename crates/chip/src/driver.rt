@@ -8,10 +8,11 @@ use state::Returned;
 use state::Width;
 ghost use mathlib.Core.List.{[]};
 ghost use Rattle.rules.specs.Registers as registers;
+ghost use Rattle.rules.specs.Chip.{paged};
 ghost use Rattle.rules.specs.Step as rules;
 ghost use Rattle.state.specs.Meaning.{widthOf};
 ghost use Rattle.state.specs.View.{view};
-ghost use Rattle.state.specs.Entry.{InOrder, Right, Answers};
+ghost use Rattle.state.specs.Entry.{InOrder, Right, recordView, Whole, Leaves, Answers};
 ghost use Rattle.chip.specs.Inputs.{accessOf};
 
 // What a driver asks for: a width and an offset, and the value of a write.
@@ -51,21 +52,54 @@ pub fn write(
     accesses::write(words, sets, queues, memory, width, offset, value)
 }
 
-// The step below the public entry: no check is repeated here.
-pub fn accessed(
+// A read on a record in order, with its 24 places: the step is lent those of the part.
+pub fn read_whole(
+    words: &mut [u16],
+    sets: &[u32],
+    queues: &[u8],
+    memory: &[u8],
+    width: Width,
+    offset: u8,
+) -> Answer
+    requires { ⌜ Whole (now words) (now sets) (now queues) (now memory) ⌝ }
+    ensures { λ a. ⌜ Leaves (rules.step (rules.driver (registers.read (widthOf width) offset)) (recordView paged (now (words .entry)) (now (sets .entry)) (now (queues .entry)) (now (memory .entry)))) a (now (words .exit)) (now (sets .entry)) (now (queues .entry)) (now (memory .entry)) [] ⌝ }
+{
+    let n = state::size_in(words);
+    read(words, &sets[..n], queues, memory, width, offset)
+}
+
+// A write on one.
+pub fn write_whole(
+    words: &mut [u16],
+    sets: &mut [u32],
+    queues: &mut [u8],
+    memory: &mut [u8],
+    width: Width,
+    offset: u8,
+    value: u16,
+) -> Answer
+    requires { ⌜ Whole (now words) (now sets) (now queues) (now memory) ⌝ }
+    ensures { λ a. ⌜ Leaves (rules.step (rules.driver (registers.write (widthOf width) offset value)) (recordView paged (now (words .entry)) (now (sets .entry)) (now (queues .entry)) (now (memory .entry)))) a (now (words .exit)) (now (sets .exit)) (now (queues .exit)) (now (memory .exit)) [] ⌝ }
+{
+    let n = state::size_in(words);
+    write(words, &mut sets[..n], queues, memory, width, offset, value)
+}
+
+// By the request.
+fn accessed(
     words: &mut [u16],
     sets: &mut [u32],
     queues: &mut [u8],
     memory: &mut [u8],
     a: Request,
 ) -> Answer
-    requires { ⌜ InOrder (now words) (now sets) (now queues) (now memory) ⌝ }
-    ensures { λ x. ⌜ Right (rules.step (rules.driver (accessOf a)) (view (now (words .entry)) (now (sets .entry)) (now (queues .entry)) (now (memory .entry)))) x (now (words .exit)) (now (sets .exit)) (now (queues .exit)) (now (memory .exit)) [] ⌝ }
+    requires { ⌜ Whole (now words) (now sets) (now queues) (now memory) ⌝ }
+    ensures { λ x. ⌜ Leaves (rules.step (rules.driver (accessOf a)) (recordView paged (now (words .entry)) (now (sets .entry)) (now (queues .entry)) (now (memory .entry)))) x (now (words .exit)) (now (sets .exit)) (now (queues .exit)) (now (memory .exit)) [] ⌝ }
 {
     match a {
-        Request::Read(width, offset) => read(words, sets, queues, memory, width, offset),
+        Request::Read(width, offset) => read_whole(words, sets, queues, memory, width, offset),
         Request::Write(width, offset, value) => {
-            write(words, sets, queues, memory, width, offset, value)
+            write_whole(words, sets, queues, memory, width, offset, value)
         }
     }
 }

@@ -6,9 +6,10 @@ use state::Queues;
 use state::Registers;
 use state::Returned;
 ghost use mathlib.Core.List.{[]};
+ghost use Rattle.rules.specs.Chip.{paged};
 ghost use Rattle.rules.specs.Step as rules;
 ghost use Rattle.state.specs.View.{view};
-ghost use Rattle.state.specs.Entry.{InOrder, Right, Answers};
+ghost use Rattle.state.specs.Entry.{InOrder, Right, recordView, Whole, Leaves, Answers};
 ghost use Rattle.receive.specs.Arrivals.{frameOf};
 
 // The step below the public entry: no check is repeated here.
@@ -26,6 +27,22 @@ pub fn arrived(
     receive::arrived(words, sets, queues, memory, frame, alignment)
 }
 
+// The same on a record in order, with its 24 places: the step is lent those of the part.
+pub fn arrived_whole(
+    words: &mut [u16],
+    sets: &mut [u32],
+    queues: &mut [u8],
+    memory: &mut [u8],
+    frame: &[u8],
+    alignment: bool,
+) -> Answer
+    requires { ⌜ Whole (now words) (now sets) (now queues) (now memory) ⌝ }
+    ensures { λ a. ⌜ Leaves (rules.step (rules.frame (frameOf (now (frame .entry)) alignment)) (recordView paged (now (words .entry)) (now (sets .entry)) (now (queues .entry)) (now (memory .entry)))) a (now (words .exit)) (now (sets .exit)) (now (queues .exit)) (now (memory .exit)) [] ⌝ }
+{
+    let n = state::size_in(words);
+    arrived(words, &mut sets[..n], queues, memory, frame, alignment)
+}
+
 // A frame arrives: its bytes with FCS, and the flag alignment.
 pub fn frame(
     r: Registers,
@@ -41,7 +58,7 @@ pub fn frame(
     let mut sets = p.sets;
     let mut slots = q.slots;
     let answer = if in_order(&words, &sets, &slots, memory) {
-        arrived(&mut words, &mut sets, &mut slots, memory, bytes, alignment)
+        arrived_whole(&mut words, &mut sets, &mut slots, memory, bytes, alignment)
     } else {
         Answer::Damaged
     };

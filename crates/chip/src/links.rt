@@ -6,9 +6,10 @@ use state::Queues;
 use state::Registers;
 use state::Returned;
 ghost use mathlib.Core.List.{[]};
+ghost use Rattle.rules.specs.Chip.{paged};
 ghost use Rattle.rules.specs.Step as rules;
 ghost use Rattle.state.specs.View.{view};
-ghost use Rattle.state.specs.Entry.{InOrder, Right, Answers};
+ghost use Rattle.state.specs.Entry.{InOrder, Right, recordView, Whole, Leaves, Answers};
 
 // The step below the public entry: no check is repeated here.
 pub fn linked(words: &mut [u16], sets: &[u32], queues: &[u8], memory: &[u8], up: u8) -> Answer
@@ -16,6 +17,15 @@ pub fn linked(words: &mut [u16], sets: &[u32], queues: &[u8], memory: &[u8], up:
     ensures { λ a. ⌜ Right (rules.step (rules.link up) (view (now (words .entry)) (now (sets .entry)) (now (queues .entry)) (now (memory .entry)))) a (now (words .exit)) (now (sets .entry)) (now (queues .entry)) (now (memory .entry)) [] ⌝ }
 {
     registers::plug(words, up)
+}
+
+// The same on a record in order, with its 24 places: the step is lent those of the part.
+pub fn linked_whole(words: &mut [u16], sets: &[u32], queues: &[u8], memory: &[u8], up: u8) -> Answer
+    requires { ⌜ Whole (now words) (now sets) (now queues) (now memory) ⌝ }
+    ensures { λ a. ⌜ Leaves (rules.step (rules.link up) (recordView paged (now (words .entry)) (now (sets .entry)) (now (queues .entry)) (now (memory .entry)))) a (now (words .exit)) (now (sets .entry)) (now (queues .entry)) (now (memory .entry)) [] ⌝ }
+{
+    let n = state::size_in(words);
+    linked(words, &sets[..n], queues, memory, up)
 }
 
 // The link is set down (0) or up (1); the memory is not looked at but for its length.
@@ -26,7 +36,7 @@ pub fn link(r: Registers, p: Pages, q: Queues, memory: &[u8], up: u8) -> Returne
     let sets = p.sets;
     let slots = q.slots;
     let answer = if in_order(&words, &sets, &slots, memory) {
-        linked(&mut words, &sets, &slots, memory, up)
+        linked_whole(&mut words, &sets, &slots, memory, up)
     } else {
         Answer::Damaged
     };

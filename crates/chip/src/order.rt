@@ -1,15 +1,15 @@
-// Is a state in order?
+// Is a record in order?
 ghost use mathlib.Core.Path.{_≡_};
 ghost use lib.ListN.{length};
 ghost use Rattle.lists.specs.Facts.{Decides};
-ghost use Rattle.state.specs.Entry.{InOrder};
+ghost use Rattle.state.specs.Entry.{Whole};
 
-// A state of a well-formed chip, beside 6,144 bytes; anything else is refused with 16.
+// A record of a well-formed chip, beside 256 bytes for each page of its part; anything else is refused with 16.
 pub fn in_order(words: &[u16], sets: &[u32], queues: &[u8], memory: &[u8]) -> bool
     requires { ⌜ (length (now words) ≡ 32) × (length (now sets) ≡ 24) × (length (now queues) ≡ 72) ⌝ }
-    ensures { λ b. ⌜ Decides b (InOrder (now (words .entry)) (now (sets .entry)) (now (queues .entry)) (now (memory .entry))) ⌝ }
+    ensures { λ b. ⌜ Decides b (Whole (now (words .entry)) (now (sets .entry)) (now (queues .entry)) (now (memory .entry))) ⌝ }
 {
-    if memory.len() != 6144 {
+    if memory.len() != 256 * state::size_in(words) {
         return false;
     }
     guard::well_formed(words, sets, queues)

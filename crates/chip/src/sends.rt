@@ -5,9 +5,10 @@ use state::Pages;
 use state::Queues;
 use state::Registers;
 use state::Returned;
+ghost use Rattle.rules.specs.Chip.{paged};
 ghost use Rattle.rules.specs.Step as rules;
 ghost use Rattle.state.specs.View.{view};
-ghost use Rattle.state.specs.Entry.{InOrder, Right, Answers};
+ghost use Rattle.state.specs.Entry.{InOrder, Right, recordView, Whole, Leaves, Answers};
 
 // The step below the public entry: no check is repeated here.
 pub fn finished(
@@ -35,6 +36,33 @@ pub fn finished(
     )
 }
 
+// The same on a record in order, with its 24 places: the step is lent those of the part.
+pub fn finished_whole(
+    words: &mut [u16],
+    sets: &mut [u32],
+    queues: &mut [u8],
+    memory: &mut [u8],
+    out: &mut [u8],
+    outcome: u8,
+    collisions: u8,
+    deferral: u8,
+) -> Answer
+    requires { ⌜ Whole (now words) (now sets) (now queues) (now memory) ⌝ }
+    ensures { λ a. ⌜ Leaves (rules.step (rules.sent (record { outcome = outcome; collisions = collisions; deferral = deferral }) (now (out .entry))) (recordView paged (now (words .entry)) (now (sets .entry)) (now (queues .entry)) (now (memory .entry)))) a (now (words .exit)) (now (sets .exit)) (now (queues .exit)) (now (memory .exit)) (now (out .exit)) ⌝ }
+{
+    let n = state::size_in(words);
+    finished(
+        words,
+        &mut sets[..n],
+        queues,
+        memory,
+        out,
+        outcome,
+        collisions,
+        deferral,
+    )
+}
+
 // The packet at the head of TX has been sent; what is put out goes to the front of the output buffer.
 pub fn send(
     r: Registers,
@@ -52,7 +80,7 @@ pub fn send(
     let mut sets = p.sets;
     let mut slots = q.slots;
     let answer = if in_order(&words, &sets, &slots, memory) {
-        finished(
+        finished_whole(
             &mut words,
             &mut sets,
             &mut slots,

@@ -50,10 +50,10 @@ module _ (l : Layout) (k : Command) (f : Chip → Effect) (p : (c : Chip) → pe
   goes-ahead a b u mem = let c = viewOf l w s q mem in p c ∙ idle-done c (f c) (has a) (waits b u)
 
 -- 40h: the pool is empty, and then the result is stored, and that nothing waits.
-pub resets : {l : Layout} (w s q mem : List ℕ) {w₁ w₂ s′ q′ : List ℕ} → length s ≡ 24 → EmptiedOf l w w₁ s′ q′ → Sets (λ r. setWaiting 0 (setResult 0x80 r)) w₁ w₂ → MakesOf l (perform reset (viewOf l w s q mem)) (Done 0) w₂ s′ q′ mem
+pub resets : {l : Layout} (w s q mem : List ℕ) {w₁ w₂ s′ q′ : List ℕ} → EmptiedOf l (length s) w w₁ s′ q′ → Sets (λ r. setWaiting 0 (setResult 0x80 r)) w₁ w₂ → MakesOf l (perform reset (viewOf l w s q mem)) (Done 0) w₂ s′ q′ mem
 unfolding perform
-resets {l} w s q mem {s′ = s′} {q′ = q′} long e g =
+resets {l} w s q mem {s′ = s′} {q′ = q′} e g =
     performs reset w s q mem (λ x. inRegisters (λ r. setWaiting 0 (setResult 0x80 r)) (inPool (λ p. emptyPool (x .pool .layout) (size x)) x)) refl
     (sets-chip g l s′ q′ mem
-    ∙ ap₂ (λ (r : Registers) (p : Pool). inRegisters (λ x. setWaiting 0 (setResult 0x80 x)) (record { regs = r; pool = p; memory = mem })) (e .regs) (e .pool ∙ ap (emptyPool l) (sym (numbers-length l s ∙ long))))
+    ∙ ap₂ (λ (r : Registers) (p : Pool). inRegisters (λ x. setWaiting 0 (setResult 0x80 x)) (record { regs = r; pool = p; memory = mem })) (e .regs) (e .pool ∙ ap (emptyPool l) (sym (numbers-length l s))))
     (sets-sound g (e .sound))

@@ -11,7 +11,7 @@ use Rattle.rules.specs.Lists.{member, freeBelow, firstEmpty}
 use Rattle.rules.specs.Chip.{Chip, free, allocated}
 use Rattle.rules.specs.Fields.{setResult, setRx, setTx, inRegisters, inPool}
 use Rattle.rules.specs.Answers.{Effect, did, refuse}
-use Rattle.rules.specs.WellFormed.{GoodPages, WellFormed}
+use Rattle.rules.specs.WellFormed.{GoodPages, FormedAt}
 use Rattle.rules.specs.Mmu.{allocate, removeRx, removeAndRelease, release, enqueue, unknown, decode, perform, grant, pend, giveBack, queued, ifIdle, ifHead}
 use Rattle.lists.specs.Facts.{or-right, no-head, head-and-rest, member-at, member-cases}
 use Rattle.wellformed.specs.Count.{distinct-few}
@@ -79,15 +79,15 @@ module _ (c : Chip) where
     idle-done a q = rw (a, q)
 
 -- What well-formedness gives a command.
-module _ (c : Chip) (w : WellFormed c) where
-  pub head-small : 0 < length (c .pool .rx) → getD (c .pool .rx) 0 0 < 24
+module _ {n : ℕ} (c : Chip) (w : FormedAt n c) where
+  pub head-small : 0 < length (c .pool .rx) → getD (c .pool .rx) 0 0 < n
   head-small h = omega (arith, has-small (c .pool .pages) _ (w .queues .rxAllocated _ (member-at (c .pool .rx) 0 h)), w .count)
 
-  pub packet-small : (k : ℕ) → allocated k c ≡ true → k < 24
+  pub packet-small : (k : ℕ) → allocated k c ≡ true → k < n
   packet-small k a = omega (arith, has-small (c .pool .pages) k a, w .count)
 
   -- a packet that is allocated and in no queue finds a place in TX
-  pub tx-room : (k : ℕ) → allocated k c ≡ true → {b : Bool} → b ≡ queued k c → b ≡ false → length (c .pool .tx) < 24
+  pub tx-room : (k : ℕ) → allocated k c ≡ true → {b : Bool} → b ≡ queued k c → b ≡ false → length (c .pool .tx) < n
   tx-room k a e u =
-      distinct-few 24 (k ∷ c .pool .tx) (or-right (member k (c .pool .rx)) (member k (c .pool .tx)) (sym e ∙ u), w .queues .txDistinct)
+      distinct-few n (k ∷ c .pool .tx) (or-right (member k (c .pool .rx)) (member k (c .pool .tx)) (sym e ∙ u), w .queues .txDistinct)
       (λ p x. ⊎-elim (λ e. omega (arith, e, packet-small k a)) (λ y. packet-small p (w .queues .txAllocated p y)) (member-cases p k (c .pool .tx) x))

@@ -13,6 +13,7 @@ use state::Answer;
 use state::NO_PACKET;
 ghost use mathlib.Core.List.{List, map};
 ghost use Prim.Native.Nat.{ℕ, _≤_};
+ghost use lib.ListN.{length};
 ghost use Rattle.rules.specs.Chip.{Layout};
 ghost use Rattle.rules.specs.Mmu as rules;
 ghost use Rattle.rules.specs.WellFormed.{GoodPages};
@@ -36,7 +37,7 @@ pub enum Order {
 
 // Enough pages are free, or the request waits for them.
 fn do_allocate(words: &mut [u16], sets: &mut [u32], need: u32) -> Answer
-    requires { ⌜ (1 ≤ need) × (need ≤ 8) × Kept (now words) × SetsIn (figures (now words)) (now sets) × GoodPages 24 (map pagesOf (now sets)) ⌝ }
+    requires { ⌜ (1 ≤ need) × (need ≤ 8) × Kept (now words) × SetsIn (figures (now words)) (now sets) × GoodPages (length (now sets)) (map pagesOf (now sets)) ⌝ }
     ensures { λ a. ⌜ ((q : List ℕ) → QueuesIn (figures (now (words .entry))) q → Performs (rules.allocate need) (now (words .entry)) (now (sets .entry)) q a (now (words .exit)) (now (sets .exit)) q) ⌝ }
 {
     if need <= pool::free_count(words) {

@@ -5,7 +5,7 @@ use state::PACKET;
 ghost use mathlib.Core.Path.{_≡_};
 ghost use mathlib.Core.List.{List, [], map};
 ghost use Prim.Native.Nat.{ℕ, _%_, _≤_};
-ghost use lib.ListN.{getD};
+ghost use lib.ListN.{length, getD};
 ghost use Rattle.rules.specs.Lists.{some?};
 ghost use Rattle.rules.specs.Mmu as rules;
 ghost use Rattle.rules.specs.WellFormed.{GoodPages};
@@ -30,7 +30,7 @@ fn is_allocated(sets: &[u32], packet: Packet) -> bool
 }
 
 pub fn do_release(words: &mut [u16], sets: &mut [u32]) -> Answer
-    requires { ⌜ Kept (now words) × SetsIn (figures (now words)) (now sets) × GoodPages 24 (map pagesOf (now sets)) × (word (now words) 23 ≤ 8) ⌝ }
+    requires { ⌜ Kept (now words) × SetsIn (figures (now words)) (now sets) × GoodPages (length (now sets)) (map pagesOf (now sets)) × (word (now words) 23 ≤ 8) ⌝ }
     ensures { λ a. ⌜ ((q : List ℕ) → Ready (now (words .entry)) (now (sets .entry)) q → Performs rules.release (now (words .entry)) (now (sets .entry)) q a (now (words .exit)) (now (sets .exit)) q) ⌝ }
 {
     let packet = named(words);

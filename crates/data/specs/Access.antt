@@ -85,9 +85,9 @@ Guards isRead p pages (Refused a) = (width : ℕ) (c : Chip) (s : Effect) → 0 
 -- what an access behind the gate may rest on: words and memory are whole, and its bytes lie in pages of the memory
 pub record Room (w mem : List ℕ) (at rest : ℕ) : Type 0 where
   pub kept : Kept w
-  pub full : length mem ≡ 6144
-  pub inside : at < 6144
-  pub below : Below 24 (pagesOf rest)
+  pub full : length mem % 256 ≡ 0
+  pub inside : at < length mem
+  pub below : Below (length mem / 256) (pagesOf rest)
 
 -- what it promises, of any packet in which it stands so
 abbrev pub Reads : ℕ → ℕ → ℕ → List ℕ → List ℕ → Answer → List ℕ → Type 0

@@ -70,8 +70,8 @@ module _ {pages : List ℕ} {p at rest : ℕ} (h : Stands pages p at rest) where
         rw (i, j, g)
 
 -- That page is one of the memory's.
-pub over-inside : (rest more : ℕ) → pagesOf more ≡ drop 1 (pagesOf rest) → more < 2 ^ 32 → 0 < more → Below 24 (pagesOf rest) → getD (pagesOf more) 0 0 < 24
-over-inside rest more f b g below = rw (rest-first rest more 1 f) (below-at 24 (pagesOf rest) 1 below (rest-goes rest more 1 f b g))
+pub over-inside : (rest more : ℕ) → pagesOf more ≡ drop 1 (pagesOf rest) → more < 2 ^ 32 → 0 < more → {n : ℕ} → Below n (pagesOf rest) → getD (pagesOf more) 0 0 < n
+over-inside rest more f b g {n} below = rw (rest-first rest more 1 f) (below-at n (pagesOf rest) 1 below (rest-goes rest more 1 f b g))
 
 -- Two bytes, read or written one by one.
 pub two-read : (mem pages : List ℕ) (a : ℕ) {i j v : ℕ} → v ≡ wordOf (getD mem i 0) (getD mem j 0) → i ≡ place pages a → j ≡ place pages (suc a)

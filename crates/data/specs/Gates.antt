@@ -10,11 +10,12 @@ use Rattle.rules.specs.Lists.{member, some?}
 use Rattle.rules.specs.Chip.{Layout, Chip, pagesAt}
 use Rattle.rules.specs.Answers.{Reply, Effect, refuse}
 use Rattle.rules.specs.Answers as rules
-use Rattle.rules.specs.WellFormed.{WellFormed}
+use Rattle.rules.specs.WellFormed.{FormedAt}
 use Rattle.rules.specs.Mmu.{ifHead}
 use Rattle.rules.specs.Data.{rcv, against, oddFixed, past, address, ifPacket, ifOpen}
 use Rattle.lists.specs.Facts.{or-left, or-right, member-first, member-later}
 use Rattle.lists.specs.Bytes.{Below, place-room}
+use Rattle.wellformed.specs.Parts.{part-few}
 use Rattle.state.specs.declared.Answer.{Answer}
 use Rattle.state.specs.Meaning.{replyOf}
 use Rattle.state.specs.View.{word, viewOf}
@@ -55,13 +56,13 @@ module _ (isRead : Bool) (p : ℕ) (pages : List ℕ) (none : Bool) where
       has (x ∷ xs) r = refl
 
 -- An access goes by the pages of the packet that is meant.
-module _ (c : Chip) (w : WellFormed c) (access : List ℕ → Effect) where
+module _ {n : ℕ} (few : n ≤ 24) (c : Chip) (w : FormedAt n c) (access : List ℕ → Effect) where
   abbrev by : ℕ → Bool → Effect
   by k b = cond (not (some? (pagesAt c k))) (refuse (cond b 7 5) c) (access (pagesAt c k))
 
   by-head : (rx : List ℕ) → c .pool .rx ≡ rx → ifHead c rx (λ k ks. access (pagesAt c k)) ≡ by (headOr24 rx) true
   unfolding some?
-  by-head [] e = rw (List·getD-eq-default (c .pool .pages) [] {n = 24} (omega (arith, w .count)))
+  by-head [] e = rw (List·getD-eq-default (c .pool .pages) [] {n = 24} (omega (arith, few, w .count)))
   by-head (k ∷ ks) e = rw (w .queues .rxAllocated k (rw e (member-first k ks)))
 
   by-meant : ifPacket c access ≡ by (meantBy (c .regs .pointer) (c .regs .numbers .packet) (c .pool .rx)) (rcv (c .regs .pointer))
@@ -77,7 +78,7 @@ module _ {l : Layout} {w s q : List ℕ} (k : ReadyOf l w s q) (mem : List ℕ) 
       → ifPacket (viewOf l w s q mem) (λ pages. ifOpen isRead width pages (viewOf l w s q mem) (f pages))
       ≡ ifAny isRead width (word w 19) (pagesMeantOf l w s q) (viewOf l w s q mem) (f (pagesMeantOf l w s q))
   unfolding ifAny ifOpen
-  enters isRead width f = by-meant (viewOf l w s q mem) (k .well) (λ pages. ifOpen isRead width pages (viewOf l w s q mem) (f pages))
+  enters isRead width f = by-meant (part-few (k .sound .sets .part)) (viewOf l w s q mem) (k .well) (λ pages. ifOpen isRead width pages (viewOf l w s q mem) (f pages))
 
   -- So it is what the gate says.
   pub stopped : (isRead : Bool) (width : ℕ) (f : List ℕ → Effect) (a : Answer) → Guards isRead (word w 19) (pagesMeantOf l w s q) (Refused a) → 0 < width
@@ -91,14 +92,16 @@ module _ {l : Layout} {w s q : List ℕ} (k : ReadyOf l w s q) (mem : List ℕ) 
 
 -- The bytes of an access that may go on lie in the memory: with page sets.
 module _ {w s q : List ℕ} (k : Ready w s q) (mem : List ℕ) where
-  pub room : {at rest : ℕ} → length mem ≡ 6144 → Stands (pagesMeant w s q) (word w 19) at rest → Room w mem at rest
+  pub room : {at rest : ℕ} → length mem ≡ 256 * length s → Stands (pagesMeant w s q) (word w 19) at rest → Room w mem at rest
   room {at} {rest} full h =
-      let below : Below 24 (pagesMeant w s q) = k .well .pages .within _ in
+      let n = length s in
+      let pages : length mem / 256 ≡ n = omega (arith, full) in
+      let below : Below n (pagesMeant w s q) = k .well .pages .within _ in
       record {
         kept = k .sound .kept;
-        full = full;
-        inside = omega (arith, h .lies, place-room 24 (pagesMeant w s q) (address (word w 19)) below (h .reaches));
-        below = subst (Below 24) (sym (h .left)) (λ p m. below p (member-drop (address (word w 19) / 256) (pagesMeant w s q) p m));
+        full = omega (arith, full);
+        inside = omega (arith, full, h .lies, place-room n (pagesMeant w s q) (address (word w 19)) below (h .reaches));
+        below = rw pages (subst (Below n) (sym (h .left)) (λ p m. below p (member-drop (address (word w 19) / 256) (pagesMeant w s q) p m)));
       }
     where
       member-drop : (n : ℕ) (l : List ℕ) (p : ℕ) → member p (drop n l) ≡ true → member p l ≡ true

@@ -4,8 +4,8 @@ use sets::Address;
 use sets::Packet;
 use state::Answer;
 use state::PACKET;
-use state::PACKETS;
 use state::PAGE_BYTES;
+use state::PLACES;
 use state::POINTER;
 use state::RX_COUNT;
 use state::flags;
@@ -20,7 +20,7 @@ ghost use Rattle.state.specs.View.{word, figures, Kept};
 ghost use Rattle.state.specs.Promise.{QueuesIn, Sound};
 ghost use Rattle.data.specs.Access.{meantIn, pagesMeant, refusalIf, Guards};
 
-// RCV set means the head of RX, clear means the packet number register. No packet has the number PACKETS, which stands for the head of an empty RX.
+// RCV set means the head of RX, clear means the packet number register. No packet of either part has the number PLACES, which stands for the head of an empty RX.
 pub fn meant(words: &[u16], queues: &[u8]) -> Packet
     requires { ⌜ Kept (now words) × QueuesIn (figures (now words)) (now queues) ⌝ }
     ensures { λ k. ⌜ k .0 ≡ meantIn (now (words .entry)) (now (queues .entry)) ⌝ }
@@ -29,7 +29,7 @@ pub fn meant(words: &[u16], queues: &[u8]) -> Packet
         return Packet(bits::low_byte(words[PACKET]));
     }
     if words[RX_COUNT] == 0 {
-        return Packet(PACKETS);
+        return Packet(PLACES);
     }
     pool::rx_head(queues)
 }

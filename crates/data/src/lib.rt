@@ -11,6 +11,7 @@ pub use checks::refusal;
 pub use pointer::advance;
 use state::Answer;
 ghost use mathlib.Core.Path.{_≡_};
+ghost use Prim.Native.Nat.{_*_};
 ghost use lib.ListN.{length};
 ghost use Rattle.rules.specs.Data.{readData, writeData};
 ghost use Rattle.state.specs.View.{view};
@@ -31,7 +32,7 @@ pub fn read_data(
     memory: &[u8],
     wide: bool,
 ) -> Answer
-    requires { ⌜ Ready (now words) (now sets) (now queues) × (length (now memory) ≡ 6144) ⌝ }
+    requires { ⌜ Ready (now words) (now sets) (now queues) × (length (now memory) ≡ 256 * length (now sets)) ⌝ }
     ensures { λ a. ⌜ Makes (readData (widthOf wide) (view (now (words .entry)) (now (sets .entry)) (now (queues .entry)) (now (memory .entry)))) a (now (words .exit)) (now (sets .entry)) (now (queues .entry)) (now (memory .entry)) ⌝ }
 {
     let gate = checks::gate_of(words, sets, queues, true);
@@ -55,7 +56,7 @@ pub fn write_data(
     wide: bool,
     value: u16,
 ) -> Answer
-    requires { ⌜ Ready (now words) (now sets) (now queues) × (length (now memory) ≡ 6144) ⌝ }
+    requires { ⌜ Ready (now words) (now sets) (now queues) × (length (now memory) ≡ 256 * length (now sets)) ⌝ }
     ensures { λ a. ⌜ Makes (writeData (bytesFor wide value) (view (now (words .entry)) (now (sets .entry)) (now (queues .entry)) (now (memory .entry)))) a (now (words .exit)) (now (sets .entry)) (now (queues .entry)) (now (memory .exit)) ⌝ }
 {
     let gate = checks::gate_of(words, sets, queues, false);

@@ -22,12 +22,12 @@ handed r p q mem = record { words = r .words; pages = p .sets; queues = q .slots
 abbrev pub left : Returned → List ℕ → List ℕ → Left
 left x mem out = record { answer = x .answer; board = handed (x .registers) (x .pages) (x .queues) mem; output = out }
 
--- `chip::access`, `frame`, `send` and `link`; `power_up`; `line`
+-- `chip::access`, `frame`, `send` and `link`; `power_up` of the part with n packets; `line`
 pub chip-serves : (i : Input) (r : Registers) (p : Pages) (q : Queues) (mem : List ℕ) (x : Returned) (mem′ out′ : List ℕ) → Answers i r p q mem x mem′ out′ → Serves paged i (handed r p q mem) (left x mem′ out′)
 chip-serves i r p q mem x mem′ out′ a = a
 
-pub chip-starts : (x : Returned) → Started x → Starts paged (left x (zeros paged) [])
-chip-starts x s = record { returned = s; beside = refl }
+pub chip-starts : (n : ℕ) (x : Returned) → Started n x → Starts paged n (left x (zeros paged n) [])
+chip-starts n x s = record { returned = s; beside = refl }
 
 pub chip-shows : (r : Registers) (p : Pages) (q : Queues) (mem : List ℕ) (up : Bool) → Lines r p q up → Shows paged (handed r p q mem) up
 chip-shows r p q mem up s = s
@@ -43,8 +43,8 @@ pub strips-serve : (i : Input) (r : Registers) (p : Strips) (q : Queues) (mem : 
     → Serves strips i (stripsHanded r p q mem) (stripsLeft x mem′ out′)
 strips-serve i r p q mem x mem′ out′ a = a
 
-pub strips-start : (x : stripReturn.Returned) → strip.Started x → Starts strips (stripsLeft x (zeros strips) [])
-strips-start x s = record { returned = s; beside = refl }
+pub strips-start : (n : ℕ) (x : stripReturn.Returned) → strip.Started n x → Starts strips n (stripsLeft x (zeros strips n) [])
+strips-start n x s = record { returned = s; beside = refl }
 
 pub strips-show : (r : Registers) (p : Strips) (q : Queues) (mem : List ℕ) (up : Bool) → strip.Lines r p q up → Shows strips (stripsHanded r p q mem) up
 strips-show r p q mem up s = s

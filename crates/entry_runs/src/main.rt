@@ -1,6 +1,7 @@
-// Runs the chip's public entries on records from outside, damaged ones too. Standard input, up to 65,536 bytes, is cases of 240 bytes:
+// Runs the chip's public entries on records from outside, damaged ones too. Standard input, up to 131,072 bytes, is cases of 240 bytes:
 // 32 words of registers, 24 page sets and 72 bytes of queues, each number with its lowest byte first, then a record of document 01,
 // of kinds 1 to 4 or 6 to 8. Bytes 2 and 3 of kind 6 are the frame's length; byte 4 of kind 7 says how many the output buffer lacks.
+// Byte 7 says how many pages the memory that is lent has, 0 where it has 24.
 // All cases have one memory and one wire, zeros at first: a send puts out to the wire, and a frame comes from it. Each case has a line,
 // in as many decimal digits as any other, so that all lines cost the same: the answer's number, its value, and a sum of the record given back.
 use chip::Request;
@@ -180,6 +181,20 @@ fn served(
     }
 }
 
+// How many bytes so many pages have, of memory that has `all`.
+fn lent_bytes(all: usize, pages: u8) -> usize
+    ensures { λ n. ⌜ n ≤ all ⌝ }
+{
+    let bytes = pages as usize * 256;
+    if pages == 0 {
+        return all;
+    }
+    if all < bytes {
+        return all;
+    }
+    bytes
+}
+
 // What a case's entry gives back.
 fn returned_of(case: &[u8], memory: &mut [u8], wire: &mut [u8]) -> Returned
     requires { ⌜ length (now case) ≡ 240 ⌝ }
@@ -193,7 +208,9 @@ fn returned_of(case: &[u8], memory: &mut [u8], wire: &mut [u8]) -> Returned
     let registers = Registers { words };
     let pages = Pages { sets };
     let queues = Queues { slots };
-    served(registers, pages, queues, memory, wire, &case[232..])
+    let n = lent_bytes(memory.len(), case[239]);
+    let lent = &mut memory[..n];
+    served(registers, pages, queues, lent, wire, &case[232..])
 }
 
 // Three times the sum so far and another number: so it matters where a number stands, and no part of a record can be left out.
@@ -275,7 +292,7 @@ fn answer_all(input: &[u8], memory: &mut [u8], wire: &mut [u8]) {
 }
 
 fn main() {
-    let mut input = [0; 65536];
+    let mut input = [0; 131072];
     let n = io::read_full(STDIN_FILENO, &mut input);
     let mut memory = [0; 6144];
     let mut wire = [0; 2052];

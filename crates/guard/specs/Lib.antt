@@ -3,3 +3,5 @@ pub mod Zeros
 pub mod Sums
 pub mod Pass
 pub mod Queues
+pub mod Parts
+pub mod Asked

@@ -92,21 +92,21 @@ gathered-set ls seen (x ∷ xs) p =
     let rest = pass-decides ls (bitOr seen (2 ^ x)) xs .complete (fresh-rest ls seen x xs f) in
     omega (arith, gathered-set ls (bitOr seen (2 ^ x)) xs rest, joined-sum seen x (f .unseen x (member-first x xs)))
 
--- So of RX and then of TX, beside completion.
-module _ (ls : List (List ℕ)) (rx tx completion : List ℕ) where
-  pub rx-passes : GoodQueues 24 ls rx tx completion → passes ls 0 rx ≡ true
+-- So of RX and then of TX, beside completion, on the part with n packets.
+module _ (n : ℕ) (ls : List (List ℕ)) (rx tx completion : List ℕ) where
+  pub rx-passes : GoodQueues n ls rx tx completion → passes ls 0 rx ≡ true
   rx-passes g = pass-decides ls 0 rx .complete (record { allocated = g .rxAllocated; unseen = λ k m. bit-zero k; distinct = g .rxDistinct })
 
   seen-rx : (k : ℕ) → bit k (gathered 0 rx) ≡ member k rx
   seen-rx k = gathered-bit k 0 rx ∙ ap (λ (b : Bool). b || member k rx) (bit-zero k)
 
-  pub tx-passes : GoodQueues 24 ls rx tx completion → passes ls (gathered 0 rx) tx ≡ true
+  pub tx-passes : GoodQueues n ls rx tx completion → passes ls (gathered 0 rx) tx ≡ true
   tx-passes g =
       pass-decides ls (gathered 0 rx) tx .complete
       (record { allocated = g .txAllocated; unseen = λ k m. seen-rx k ∙ if-not (member k rx) (λ r. true≢false (sym m ∙ g .notBoth k r)); distinct = g .txDistinct })
 
-  pub entries-good : passes ls 0 rx ≡ true → passes ls (gathered 0 rx) tx ≡ true → allBelow 24 completion ≡ true → length completion ≤ 24 → GoodQueues 24 ls rx tx completion
-  entries-good a b n few =
+  pub entries-good : passes ls 0 rx ≡ true → passes ls (gathered 0 rx) tx ≡ true → allBelow n completion ≡ true → length completion ≤ n → GoodQueues n ls rx tx completion
+  entries-good a b below few =
       let r = pass-decides ls 0 rx .sound a in
       let t = pass-decides ls (gathered 0 rx) tx .sound b in
       record {
@@ -114,9 +114,9 @@ module _ (ls : List (List ℕ)) (rx tx completion : List ℕ) where
         txAllocated = t .allocated;
         rxDistinct = r .distinct;
         txDistinct = t .distinct;
-        notBoth = λ k m. if-not (member k tx) (λ n. true≢false (sym m ∙ sym (seen-rx k) ∙ t .unseen k n));
+        notBoth = λ k m. if-not (member k tx) (λ x. true≢false (sym m ∙ sym (seen-rx k) ∙ t .unseen k x));
         completionFew = few;
-        completionNumbers = members (λ k. k < 24) completion (below-decides 24 completion) .sound n;
+        completionNumbers = members (λ k. k < n) completion (below-decides n completion) .sound below;
       }
 
 -- An allocated packet has one of the page lists.

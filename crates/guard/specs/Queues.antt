@@ -1,4 +1,4 @@
--- What the tests of the queues decide, beside the words w and the page sets s.
+-- What the tests of the queues decide, beside the words w and the page sets s, on the part with n packets.
 use mathlib.Core.Path.{_≡_, sym, _∙_}
 use mathlib.Core.Bool.{true}
 use mathlib.Core.List.{List, map}
@@ -20,7 +20,7 @@ use Rattle.state.specs.Counted.{whole, halves}
 use Rattle.guard.specs.Pass.{passes, gathered, gathered-set, rx-passes, tx-passes, entries-good}
 use Rattle.guard.specs.Sums.{sum, queues-sum, rx-slots, tx-slots, completion-slots}
 
-module _ (w s q : List ℕ) (long : length q ≡ 72) where
+module _ (n : ℕ) (w s q : List ℕ) (long : length q ≡ 72) where
   abbrev ls : List (List ℕ)
   ls = map pagesOf s
 
@@ -34,10 +34,10 @@ module _ (w s q : List ℕ) (long : length q ≡ 72) where
   done = queueIn 2 (word w 9) q
 
   abbrev pub Good : Type 0
-  Good = QueuesIn (figures w) q × GoodQueues 24 ls rx tx done
+  Good = QueuesIn (figures w) q × GoodQueues n ls rx tx done
 
   abbrev pub Fit : Type 0
-  Fit = (word w 6 ≤ 24) × (word w 8 ≤ 24) × (word w 9 ≤ 24)
+  Fit = (word w 6 ≤ 24) × (word w 8 ≤ 24) × (word w 9 ≤ n)
 
   -- the packets seen, RX's and then TX's beside them
   abbrev pub seenRx : ℕ
@@ -51,19 +51,19 @@ module _ (w s q : List ℕ) (long : length q ≡ 72) where
 
   -- Each test holds of queues that are good.
   pub good-fit : Good → Fit
-  good-fit g = (fit 0 _ (omega arith) (g .0 .rx), fit 1 _ (omega arith) (g .0 .tx), fit 2 _ (omega arith) (g .0 .completion))
+  good-fit g = (fit 0 _ (omega arith) (g .0 .rx), fit 1 _ (omega arith) (g .0 .tx), omega (arith, g .0 .completion .many, g .1 .completionFew))
     where
-      fit : (k n : ℕ) → k < 3 → Slots (slots k q) n (queueIn k n q) → n ≤ 24
-      fit k n h x = omega (arith, x .fits, part-long k q long h)
+      fit : (k c : ℕ) → k < 3 → Slots (slots k q) c (queueIn k c q) → c ≤ 24
+      fit k c h x = omega (arith, x .fits, part-long k q long h)
 
   pub good-rx : Good → passes ls 0 rx ≡ true
-  good-rx g = rx-passes ls rx tx done (g .1)
+  good-rx g = rx-passes n ls rx tx done (g .1)
 
   pub good-tx : Good → passes ls seenRx tx ≡ true
-  good-tx g = tx-passes ls rx tx done (g .1)
+  good-tx g = tx-passes n ls rx tx done (g .1)
 
-  pub good-numbers : Good → allBelow 24 done ≡ true
-  good-numbers g = members (λ k. k < 24) done (below-decides 24 done) .complete (g .1 .completionNumbers)
+  pub good-numbers : Good → allBelow n done ≡ true
+  good-numbers g = members (λ k. k < n) done (below-decides n done) .complete (g .1 .completionNumbers)
 
   pub good-sum : Good → sum q ≡ sum rx + sum tx + sum done
   good-sum g = queues-sum q (word w 6) (word w 8) (word w 9) long (g .0 .rx) (g .0 .tx) (g .0 .completion)
@@ -82,15 +82,15 @@ module _ (w s q : List ℕ) (long : length q ≡ 72) where
     good-marks g = (whole (g .0 .inRx) ∙ sym rx-set, omega (arith, whole (g .0 .inTx), tx-set))
 
     -- and together they tell that they are.
-    pub queues-good : ((i : ℕ) → word w i < 65536) → Fit → Marks → allBelow 24 done ≡ true → sum q ≡ sum rx + sum tx + sum done → Good
-    queues-good typed f m n e = (
+    pub queues-good : n ≤ 24 → ((i : ℕ) → word w i < 65536) → Fit → Marks → allBelow n done ≡ true → sum q ≡ sum rx + sum tx + sum done → Good
+    queues-good few typed f m below e = (
       record {
         long = long;
         rx = rx-slots q (word w 6) (word w 8) (word w 9) long e (f .0);
         tx = tx-slots q (word w 6) (word w 8) (word w 9) long e (f .1);
-        completion = completion-slots q (word w 6) (word w 8) (word w 9) long e (f .2);
+        completion = completion-slots q (word w 6) (word w 8) (word w 9) long e (omega (arith, f .2, few));
         inRx = halves (word w 28) (word w 29) (setOf rx) (typed 28) (m .0 ∙ rx-set);
         inTx = halves (word w 30) (word w 31) (setOf tx) (typed 30) (omega (arith, m .1, tx-set));
       },
-      entries-good ls rx tx done a b n (omega (arith, f .2, length-take-le (word w 9) (slots 2 q) (omega (arith, f .2, part-long 2 q long (omega arith))))),
+      entries-good n ls rx tx done a b below (omega (arith, f .2, length-take-le (word w 9) (slots 2 q) (omega (arith, f .2, few, part-long 2 q long (omega arith))))),
     )

@@ -41,10 +41,10 @@ fn total(bytes: &[u8]) -> u16
     added
 }
 
-// Has each queue room for so many entries?
-fn counts_fit(words: &[u16]) -> bool
+// Has each queue room for so many entries? Completion holds as many as the part has packets.
+fn counts_fit(words: &[u16], size: usize) -> bool
     requires { ⌜ length (now words) ≡ 32 ⌝ }
-    ensures { λ b. ⌜ Decides b ((word (now (words .entry)) 6 ≤ 24) × (word (now (words .entry)) 8 ≤ 24) × (word (now (words .entry)) 9 ≤ 24)) ⌝ }
+    ensures { λ b. ⌜ Decides b ((word (now (words .entry)) 6 ≤ 24) × (word (now (words .entry)) 8 ≤ 24) × (word (now (words .entry)) 9 ≤ size)) ⌝ }
 {
     if 24 < words[RX_COUNT] {
         return false;
@@ -52,7 +52,7 @@ fn counts_fit(words: &[u16]) -> bool
     if 24 < words[TX_COUNT] {
         return false;
     }
-    words[COMPLETION_COUNT] <= 24
+    words[COMPLETION_COUNT] as usize <= size
 }
 
 // Are these the packets whose bits "in RX" and "in TX" are set?
@@ -105,16 +105,16 @@ fn fresh(sets: &[u32], slots: &[u8], count: u16, seen: u32) -> Seen
 // Is each entry a packet number, and what do they add up to?
 pub struct Numbers(pub bool, pub u32);
 
-fn all_below(slots: &[u8], count: u16) -> Numbers
+fn all_below(slots: &[u8], count: u16, limit: usize) -> Numbers
     requires { ⌜ (length (now slots) ≡ 24) × (count ≤ 24) ⌝ }
-    ensures good { λ r. ⌜ r .0 ≡ allBelow 24 (take count (now (slots .entry))) ⌝ }
+    ensures good { λ r. ⌜ r .0 ≡ allBelow limit (take count (now (slots .entry))) ⌝ }
     ensures added { λ r. ⌜ (r .0 ≡ true → r .1 ≡ sum (take count (now (slots .entry)))) ⌝ }
 {
     let mut added = 0;
     let mut i = 0;
     while i < count as usize {
         let x = slots[i];
-        if 24 <= x {
+        if limit <= x as usize {
             return Numbers(false, 0);
         }
         added += x as u32;
@@ -124,11 +124,11 @@ fn all_below(slots: &[u8], count: u16) -> Numbers
 }
 
 // Are the queues laid out as they must be, and their entries what document 01 asks? Those of RX are seen before TX.
-pub fn queues_good(words: &[u16], sets: &[u32], queues: &[u8]) -> bool
-    requires { ⌜ (length (now words) ≡ 32) × (length (now sets) ≡ 24) × (length (now queues) ≡ 72) ⌝ }
-    ensures { λ b. ⌜ Decides b (QueuesIn (figures (now (words .entry))) (now (queues .entry)) × GoodQueues 24 (map pagesOf (now (sets .entry))) (queueIn 0 (word (now (words .entry)) 6) (now (queues .entry))) (queueIn 1 (word (now (words .entry)) 8) (now (queues .entry))) (queueIn 2 (word (now (words .entry)) 9) (now (queues .entry)))) ⌝ }
+pub fn queues_good(words: &[u16], sets: &[u32], queues: &[u8], size: usize) -> bool
+    requires { ⌜ (length (now words) ≡ 32) × (length (now sets) ≡ 24) × (length (now queues) ≡ 72) × (size ≤ 24) ⌝ }
+    ensures { λ b. ⌜ Decides b (QueuesIn (figures (now (words .entry))) (now (queues .entry)) × GoodQueues size (map pagesOf (now (sets .entry))) (queueIn 0 (word (now (words .entry)) 6) (now (queues .entry))) (queueIn 1 (word (now (words .entry)) 8) (now (queues .entry))) (queueIn 2 (word (now (words .entry)) 9) (now (queues .entry)))) ⌝ }
 {
-    if !counts_fit(words) {
+    if !counts_fit(words, size) {
         return false;
     }
     let rx = fresh(sets, &queues[RX..TX], words[RX_COUNT], 0);
@@ -142,7 +142,11 @@ pub fn queues_good(words: &[u16], sets: &[u32], queues: &[u8]) -> bool
     if !marks_good(words, rx.1, tx.1 - rx.1) {
         return false;
     }
-    let completion = all_below(&queues[COMPLETION..QUEUES_END], words[COMPLETION_COUNT]);
+    let completion = all_below(
+        &queues[COMPLETION..QUEUES_END],
+        words[COMPLETION_COUNT],
+        size,
+    );
     if !completion.0 {
         return false;
     }

@@ -14,14 +14,14 @@ ghost use Rattle.lists.specs.Facts.{Decides};
 ghost use Rattle.state.specs.View.{registersIn, Latches, Fixed, BlankIn, Kept};
 ghost use Rattle.state.specs.WellFormed.{RequestFormed};
 
-// Packet number and allocation result.
-fn packet_good(packet: u16) -> bool
-    ensures { λ b. ⌜ Decides b ((packet % 256 < 64) × ((packet / 256 < 24) ⊎ (packet / 256 ≡ 0x80))) ⌝ }
+// Packet number and allocation result, of a part with so many packets.
+fn packet_good(packet: u16, size: usize) -> bool
+    ensures { λ b. ⌜ Decides b ((packet % 256 < 64) × ((packet / 256 < size) ⊎ (packet / 256 ≡ 0x80))) ⌝ }
 {
     if 64 <= packet % 256 {
         return false;
     }
-    if packet / 256 < 24 {
+    if ((packet / 256) as usize) < size {
         return true;
     }
     packet / 256 == 0x80
@@ -80,9 +80,9 @@ pub fn request_good(mir: u16, packet: u16, waiting: u16) -> bool
     packet / 256 == 0x80
 }
 
-pub fn words_good(words: &[u16]) -> bool
+pub fn words_good(words: &[u16], size: usize) -> bool
     requires { ⌜ length (now words) ≡ 32 ⌝ }
-    ensures { λ b. ⌜ Decides b (Kept (now (words .entry)) × GoodNumbers 24 (registersIn (now (words .entry)) .numbers)) ⌝ }
+    ensures { λ b. ⌜ Decides b (Kept (now (words .entry)) × GoodNumbers size (registersIn (now (words .entry)) .numbers)) ⌝ }
 {
     if !fixed_good(
         words[BANK],
@@ -96,5 +96,5 @@ pub fn words_good(words: &[u16]) -> bool
     if !blanks_good(words) {
         return false;
     }
-    packet_good(words[PACKET])
+    packet_good(words[PACKET], size)
 }

@@ -1,13 +1,17 @@
--- No step changes the layout, on any chip.
-use mathlib.Core.Path.{_≡_, refl}
+-- No step changes the layout, nor the part: how many packets the chip has. On any chip, well formed or not.
+use mathlib.Core.Path.{_≡_, refl, ap, sym, _∙_}
+use mathlib.Core.Bool.{Bool, true, false, true≢false}
 use Prim.Native.Nat.{ℕ}
 use Rattle.rules.specs.Bits.{bit, lowByte}
-use Rattle.rules.specs.Chip.{Layout, Chip}
+use Rattle.rules.specs.Chip.{Layout, Chip, size}
 use Rattle.rules.specs.Answers.{Effect, Turn}
+use Rattle.rules.specs.Tests.{fit}
 use Rattle.rules.specs.Mmu.{decode}
 use Rattle.rules.specs.Registers.{Lanes, Register, TCR, EPHSR, RCR, ECR, MIR, RESERVED, STATION, CONTROL, COMMAND, PACKET, HEADS, POINTER, DATA, INTERRUPT, TABLE, BANK, UNUSED, ABSENT, bytesOf, newRcr, writeRcr, writeRegister, registerAt, misplaced, lanesAt, Access, read, write, access}
 use Rattle.rules.specs.Step.{Input, driver, frame, sent, link, serve, stepOf}
 use Rattle.wellformed.specs.Cases.{pick, by-lanes, by-read, by-plug, by-step}
+use Rattle.wellformed.specs.Fit.{fit-decides, step-unfit}
+use Rattle.wellformed.specs.Keeps.{keeps}
 use Rattle.laws.specs.Untouched.{performs, reads-data, writes-data, writes-interrupt, arrives, finishes}
 
 module _ (c : Chip) where
@@ -56,3 +60,11 @@ module _ (c : Chip) where
 
 pub layout-stays : (n : ℕ) (i : Input) (c : Chip) → stepOf n i c .chip .pool .layout ≡ c .pool .layout
 layout-stays n i c = by-step c (LaidBy c) n i refl (serves c i)
+
+-- A chip that is well formed has n packets before and after, and another stays as it is: so 40h and a soft reset keep the part too (document 02, W9).
+pub size-stays : (n : ℕ) (i : Input) (c : Chip) → size (stepOf n i c .chip) ≡ size c
+size-stays n i c = go (fit n c) refl
+  where
+    go : (b : Bool) → fit n c ≡ b → size (stepOf n i c .chip) ≡ size c
+    go true e = let w = fit-decides n c .sound e in keeps n c w i .0 .count ∙ sym (w .0 .count)
+    go false e = ap (λ (t : Turn). size (t .chip)) (step-unfit n i c (λ w. true≢false (sym (fit-decides n c .complete w) ∙ e)))

@@ -1,6 +1,8 @@
 -- What leads to the client's demands, which `demands` states. The modules tell the story in this order. No code rests on this crate.
--- What the rules compute: the worked example, the table of document 01, the hash examples of the data sheet, and a broadcast with its FCS.
+-- Laws are over the number n of packets and pages, and a part only cites them (document 02, W9). Computed examples stand at a part, or at a few packets.
+-- What the rules compute: the worked example, the LAN91C94 and how the bench is asked for it, the table of document 01, the hash examples of the data sheet, and a broadcast with its FCS.
 pub mod Example
+pub mod OtherPart
 pub mod EitherSide
 pub mod Broadcast
 -- Sentences of document 01 said of what is seen, and not of how it is made: which sends are done and which fault in a byte count refuses one, the bytes that a send puts out, the interrupt status and the line.
@@ -14,7 +16,7 @@ pub mod Residue
 pub mod Fcs
 -- Demand 1: a refusal changes nothing, and which numbers an input may get.
 pub mod Refusals
--- Demand 2: each page is free or in one packet, and the free count is accounted for. (`wellformed` has that each step keeps a chip well formed.)
+-- Demand 2: each page is free or in one packet, and the free count is accounted for; no step changes layout or part. (`wellformed` has that each step keeps a chip well formed.)
 pub mod Untouched
 pub mod Layout
 pub mod Accounted

@@ -5,7 +5,8 @@ use Prim.Native.Nat.{ℕ}
 use lib.ListN.{getD, replicate, length-replicate}
 use Rattle.rules.specs.Bits.{bit, setBit, clearBit, flag, lowByte, highByte, wordOf}
 use Rattle.rules.specs.Lists.{member, some?, owned, unless, freeBelow, firstEmpty}
-use Rattle.rules.specs.Chip.{Chip, powerUp}
+use Rattle.rules.specs.Parts.{lan91c96}
+use Rattle.rules.specs.Chip.{paged, Chip, powered}
 use Rattle.rules.specs.Fields.{setRcr, setPages, inRegisters, inPool}
 use Rattle.rules.specs.Answers.{Reply, done}
 use Rattle.rules.specs.Tests.{above, ascends, allBelow, apart, noneOwned, pagesGood, laidGood, queueGood, queuesGood, numbersGood, requestGood, formed, fit}
@@ -14,7 +15,7 @@ use Rattle.rules.specs.Crc.{crcBit, crcBits, crcFrom, crc, hash, mirror, fcsWor
 use Rattle.rules.specs.Receive.{Frame, sameBytes, badCrc, broadcast, group, inTable, accepted, dataLength, countOf, pagesFor, needed, valueFor, dropped, judge, groupBits, frameStatus, trailer, image, after, arrive}
 use Rattle.rules.specs.Data.{address, advance, next, ifPacket, against, oddFixed, past, ifOpen, writeData}
 use Rattle.rules.specs.Registers.{Access, write, byte, word, registerAt, misplaced, lanesAt, merged, bytesOf, lowOnly, writeRegister, access}
-use Rattle.rules.specs.Step.{Input, driver, frame, serve, stepOf, runOf, run}
+use Rattle.rules.specs.Step.{Input, driver, frame, serve, stepOf, runOf}
 use Rattle.wellformed.specs.Fit.{formed-decides}
 use Rattle.laws.specs.Broadcast.{broadcasting}
 use Rattle.laws.specs.Loading.{toBank, toPacket, toPointer, toData}
@@ -24,7 +25,7 @@ use Rattle.laws.specs.Theorems.{Whole}
 
 -- a chip that receives, on which packet 0 has page 0
 abbrev pub listening : Chip
-listening = inPool (setPages ((0 ∷ []) ∷ replicate 23 [])) (inRegisters (setRcr 0x0100) powerUp)
+listening = inPool (setPages ((0 ∷ []) ∷ replicate 23 [])) (inRegisters (setRcr 0x0100) (powered paged lan91c96))
 
 -- bank 2 is selected, packet 0 named, its address 0 pointed to with AUTO INCR, and a word written
 abbrev pub filling : List Access
@@ -41,9 +42,9 @@ mixed = driver (write byte 0xe 2) ∷ frame broadcasting ∷ driver (write byte 
 pub mixed-merges : Merge (map driver filling) (map frame arriving) mixed
 mixed-merges = left (right (left (left (right (left none)))))
 
-pub listening-whole : Whole listening
+pub listening-whole : Whole lan91c96 listening
 unfolding bit member some? owned above ascends allBelow apart noneOwned pagesGood laidGood queueGood queuesGood numbersGood requestGood formed
-listening-whole = (formed-decides 24 listening .sound refl, length-replicate {A = ℕ} 6144 0)
+listening-whole = (formed-decides lan91c96 listening .sound refl, length-replicate {A = ℕ} 6144 0)
 
 pub filling-loads : Loads listening listening filling
 unfolding bit lowByte highByte wordOf member some? place putBytes address advance next ifPacket against oddFixed past ifOpen writeData registerAt misplaced lanesAt merged bytesOf lowOnly writeRegister access
@@ -59,7 +60,7 @@ pub record Seen : Type 0 where
 unfoldable pub seen : Seen
 unfolding bit setBit clearBit flag lowByte highByte wordOf member some? owned unless freeBelow firstEmpty above ascends allBelow apart noneOwned pagesGood laidGood queueGood queuesGood numbersGood requestGood formed fit place getBytes putBytes crcBit crcBits crcFrom crc hash mirror fcsWord fourBytes sameBytes badCrc broadcast group inTable accepted dataLength countOf pagesFor needed valueFor dropped judge groupBits frameStatus trailer image after arrive address advance next ifPacket against oddFixed past ifOpen writeData registerAt misplaced lanesAt merged bytesOf lowOnly writeRegister access serve stepOf runOf
 seen =
-    let x = run mixed listening in
+    let x = runOf lan91c96 mixed listening in
     let c = x .chip in
     record { replies = x .replies; rx = c .pool .rx; word = getBytes 2 0 (getD (c .pool .pages) 0 []) (c .memory); stored = getD (c .memory) 516 0 }
 

@@ -1,4 +1,4 @@
--- Which steps are a soft or an MMU reset to the ledger: all that document 01 calls so, on any well-formed chip.
+-- Which steps are a soft or an MMU reset to the ledger: all that document 01 calls so, on any well-formed chip, of n packets.
 use mathlib.Core.Path.{_≡_, refl}
 use mathlib.Core.Bool.{true, false}
 use Prim.Native.Nat.{ℕ}
@@ -16,18 +16,18 @@ unfolding bit
 top-bit = refl
 
 -- A write that is placed, of the value v at an offset.
-module _ (c : Chip) (whole : Whole c) (w : Width) (offset v : ℕ) (placed : misplaced w offset ≡ false) where
+module _ (n : ℕ) (c : Chip) (whole : Whole n c) (w : Width) (offset v : ℕ) (placed : misplaced w offset ≡ false) where
   -- "40h frees all pages": 40h, written to the MMU command register
-  pub mmu-reset : registerAt (c .regs .numbers .bank) offset ≡ COMMAND → (lanesAt w offset ≡ high → ⊥) → lowByte v ≡ 0x40 → Resets 24 (driver (write w offset v)) c
+  pub mmu-reset : registerAt (c .regs .numbers .bank) offset ≡ COMMAND → (lanesAt w offset ≡ high → ⊥) → lowByte v ≡ 0x40 → Resets n (driver (write w offset v)) c
   unfolding entriesOf inputEntries writeEntries commandEntries serve access decode perform lowOnly writeRegister
   mmu-reset reached lane value = go (lanesAt w offset) refl
     where
-      go : (p : Lanes) → lanesAt w offset ≡ p → Resets 24 (driver (write w offset v)) c
-      go low e = rw (step-fit 24 (driver (write w offset v)) c whole, placed, reached, e, value) refl
+      go : (p : Lanes) → lanesAt w offset ≡ p → Resets n (driver (write w offset v)) c
+      go low e = rw (step-fit n (driver (write w offset v)) c whole, placed, reached, e, value) refl
       go high e = absurd (lane e)
-      go both e = rw (step-fit 24 (driver (write w offset v)) c whole, placed, reached, e, value) refl
+      go both e = rw (step-fit n (driver (write w offset v)) c whole, placed, reached, e, value) refl
 
   -- "A write to either byte of RCR that leaves its bit 15 set resets"
-  pub soft-reset : registerAt (c .regs .numbers .bank) offset ≡ RCR → bit 15 (newRcr (lanesAt w offset) v (c .regs .receiving .rcr)) ≡ true → Resets 24 (driver (write w offset v)) c
+  pub soft-reset : registerAt (c .regs .numbers .bank) offset ≡ RCR → bit 15 (newRcr (lanesAt w offset) v (c .regs .receiving .rcr)) ≡ true → Resets n (driver (write w offset v)) c
   unfolding entriesOf inputEntries writeEntries serve access writeRcr writeRegister
-  soft-reset reached set = rw (step-fit 24 (driver (write w offset v)) c whole, placed, reached, set, top-bit) refl
+  soft-reset reached set = rw (step-fit n (driver (write w offset v)) c whole, placed, reached, set, top-bit) refl

@@ -5,8 +5,8 @@ use mathlib.Core.List.{List, [], _∷_}
 use Prim.Native.Nat.{ℕ, zero, suc, _*_}
 use native.Mathlib.Omega.{arith}
 use lib.ListN.{length, replicate}
-use Rattle.rules.specs.Chip.{Layout, paged, strips, Chip, pageNumbers, pagesAt, powered, powerUp, stripsUp}
-use Rattle.rules.specs.Step.{Input, driver, frame, sent, link, serve, stepOf, runOf, run}
+use Rattle.rules.specs.Chip.{Layout, paged, strips, Chip, pageNumbers, pagesAt, powered}
+use Rattle.rules.specs.Step.{Input, driver, frame, sent, link, serve, stepOf, runOf}
 use Rattle.wellformed.specs.Fit.{Fits, step-fit}
 use Rattle.wellformed.specs.Keeps.{keeps, powered-fits}
 use Rattle.laws.specs.Head.{byteAt}
@@ -101,10 +101,10 @@ pub strips-agree : (n : ℕ) (inputs : List Input) → OnlyWritten n inputs (pow
     → Agree (writtenBy n inputs (powered paged n) unwritten) (runOf n inputs (powered paged n) .chip) (runOf n inputs (powered strips n) .chip)
 strips-agree n inputs h = beside-at-the-end n strips inputs (powered-beside paged strips n) h
 
--- the chip of document 01 and the one of 24 strips: each step, and the two at the end of a history
-pub record StripsBeside (inputs : List Input) : Type 0 where
-  pub steps : Alike 24 inputs unwritten powerUp stripsUp
-  pub end : Agree (writtenBy 24 inputs powerUp unwritten) (run inputs powerUp .chip) (run inputs stripsUp .chip)
+-- the chip of n pages and the one of n strips: each step, and the two at the end of a history
+pub record StripsBeside (n : ℕ) (inputs : List Input) : Type 0 where
+  pub steps : Alike n inputs unwritten (powered paged n) (powered strips n)
+  pub end : Agree (writtenBy n inputs (powered paged n) unwritten) (runOf n inputs (powered paged n) .chip) (runOf n inputs (powered strips n) .chip)
 
-pub strips-beside : (inputs : List Input) → OnlyWritten 24 inputs powerUp unwritten → StripsBeside inputs
-strips-beside inputs h = record { steps = strips-alike 24 inputs h; end = strips-agree 24 inputs h }
+pub strips-beside : (n : ℕ) (inputs : List Input) → OnlyWritten n inputs (powered paged n) unwritten → StripsBeside n inputs
+strips-beside n inputs h = record { steps = strips-alike n inputs h; end = strips-agree n inputs h }

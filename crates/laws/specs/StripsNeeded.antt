@@ -1,4 +1,4 @@
--- Why W3's promise asks that each send reads only written bytes, and says that a data read of another byte may return another value: on two chips of n packets, one of pages and one of strips. Computed, the two main ones at 24.
+-- Why W3's promise asks that each send reads only written bytes, and says that a data read of another byte may return another value: on two chips of n packets, one of pages and one of strips. Computed, the two main ones at the LAN91C96.
 use mathlib.Core.Path.{_≡_, refl}
 use mathlib.Core.List.{List, [], _∷_, _++_, map}
 use mathlib.Core.Bool.{Bool, true, false, _&&_}
@@ -6,6 +6,7 @@ use Prim.Native.Nat.{ℕ, _-_}
 use lib.ListN.{length, getD, take, replicate}
 use Rattle.rules.specs.Bits.{bit, setBit, clearBit, flag, lowByte, highByte, wordOf, wordAt}
 use Rattle.rules.specs.Lists.{member, some?, owned, unless, freeBelow, total, upFrom, firstEmpty}
+use Rattle.rules.specs.Parts.{lan91c96}
 use Rattle.rules.specs.Chip.{Layout, paged, strips, Chip, powered}
 use Rattle.rules.specs.Answers.{Reply, done, refusalWith}
 use Rattle.rules.specs.Tests.{above, ascends, allBelow, apart, noneOwned, pagesGood, goesUp, ownGood, laidGood, queueGood, queuesGood, numbersGood, requestGood, formed, fit}
@@ -56,7 +57,7 @@ sentAfter accesses =
     map driver (accesses ++ (write byte 0 0xc0 ∷ write byte 0xe 0 ∷ write byte 0 1 ∷ [])) ++ (sent (record { outcome = 0; collisions = 0; deferral = 0 }) (replicate 2052 0) ∷ [])
 
 -- The count is not written: one chip sends, and the other answers 18.
-pub count-unwritten : Seen 24 (sentAfter left)
+pub count-unwritten : Seen lan91c96 (sentAfter left)
     (sends 11 (0x11 ∷ 0x11 ∷ 0x22 ∷ 0x22 ∷ 0x33 ∷ 0x33 ∷ 0x44 ∷ 0x9b ∷ 0x39 ∷ 0x82 ∷ 0x86 ∷ 0 ∷ [])) (record { reply = refusalWith 18 0; output = replicate 12 0 })
 unfolding lastOf
 count-unwritten = (refl, refl)
@@ -101,7 +102,7 @@ accesses-mind n [] c m = tt
 accesses-mind n (a ∷ more) c m = (tt, accesses-mind n more (stepOf n (driver a) c .chip) _)
 
 -- and a data read of a byte that is not written returns another value; of a word the written half is the same.
-pub read-unwritten : Seen 24 (map driver (left ++ (write word 6 0x2004 ∷ read word 8 ∷ []))) (gives 0x1111) (gives 0)
+pub read-unwritten : Seen lan91c96 (map driver (left ++ (write word 6 0x2004 ∷ read word 8 ∷ []))) (gives 0x1111) (gives 0)
 unfolding lastOf
 read-unwritten = (refl, refl)
 

@@ -8,7 +8,8 @@ use native.Mathlib.Omega.{arith}
 use lib.ListN.{getD, replicate}
 use Rattle.rules.specs.Bits.{bit, setBit, clearBit, flag, lowByte, highByte, wordOf, wordAt}
 use Rattle.rules.specs.Lists.{member, some?, owned, unless, freeBelow, firstEmpty}
-use Rattle.rules.specs.Chip.{Chip, powerUp}
+use Rattle.rules.specs.Parts.{lan91c96}
+use Rattle.rules.specs.Chip.{paged, Chip, powered}
 use Rattle.rules.specs.Answers.{Reply, Turn, done}
 use Rattle.rules.specs.Tests.{above, ascends, allBelow, apart, noneOwned, pagesGood, laidGood, queueGood, queuesGood, numbersGood, requestGood, formed, fit}
 use Rattle.rules.specs.Packet.{place, getBytes, putBytes}
@@ -18,7 +19,7 @@ use Rattle.rules.specs.Registers.{Access, read, write, byte, word, registerAt, 
 use Rattle.rules.specs.Crc.{crcBit, crcBits, crcFrom, crc, hash, mirror, fcsWord, fourBytes}
 use Rattle.rules.specs.Receive.{sameBytes, badCrc, broadcast, group, inTable, accepted, dataLength, countOf, pagesFor, needed, valueFor, dropped, judge, groupBits, frameStatus, trailer, image, after, arrive}
 use Rattle.rules.specs.Send.{inLimits, byteCount, sendLength, appends, padded, ended, onWire, controlByte, putOut, good, failureBit, collisionBits, outcomeBits, addressBits, nibble, counted, tally, nibbles, anyAt15, newEcr, newEphsr, autoRelease, sendHead, ifUsable, ifSendable, finish}
-use Rattle.rules.specs.Step.{Input, driver, frame, sent, link, serve, stepOf, runOf, run}
+use Rattle.rules.specs.Step.{Input, driver, frame, sent, link, serve, stepOf, runOf}
 use Rattle.lists.specs.Facts.{_and_, is-true}
 use Rattle.wellformed.specs.Fit.{below-decides}
 use Rattle.laws.specs.Broadcast.{broadcasting}
@@ -107,17 +108,17 @@ toFrame = toSent ++ (frame broadcasting ∷ [])
 abbrev pub used : List Input
 used = toFrame ++ map driver drains
 
-used-test : allMinded 24 used powerUp unwritten ≡ true
+used-test : allMinded lan91c96 used (powered paged lan91c96) unwritten ≡ true
 unfolding bit setBit clearBit flag lowByte highByte wordOf wordAt member some? owned unless freeBelow firstEmpty above ascends allBelow apart noneOwned pagesGood laidGood queueGood queuesGood numbersGood requestGood formed fit place getBytes putBytes decode perform due settle address advance next ifPacket against oddFixed past ifOpen valueOf readData writeData registerAt misplaced lanesAt taken merged width bytesOf headOf newRcr writeRcr forgotten writeTcr lowOnly readRegister writeRegister access crcBit crcBits crcFrom crc hash mirror fcsWord fourBytes sameBytes badCrc broadcast group inTable accepted dataLength countOf pagesFor needed valueFor dropped judge groupBits frameStatus trailer image after arrive inLimits byteCount sendLength appends padded ended onWire controlByte putOut good failureBit collisionBits outcomeBits addressBits nibble counted tally nibbles anyAt15 newEcr newEphsr autoRelease sendHead ifUsable ifSendable finish serve stepOf allMarked readsMarked minded allMinded marked anew commandMarks writeMarks accessMarks frameMarks sendMarks inputMarks written
 used-test = refl
 
 unfoldable pub usedReplies : List Reply
 unfolding bit setBit clearBit flag lowByte highByte wordOf wordAt member some? owned unless freeBelow firstEmpty above ascends allBelow apart noneOwned pagesGood laidGood queueGood queuesGood numbersGood requestGood formed fit place getBytes putBytes decode perform due settle address advance next ifPacket against oddFixed past ifOpen valueOf readData writeData registerAt misplaced lanesAt taken merged width bytesOf headOf newRcr writeRcr forgotten writeTcr lowOnly readRegister writeRegister access crcBit crcBits crcFrom crc hash mirror fcsWord fourBytes sameBytes badCrc broadcast group inTable accepted dataLength countOf pagesFor needed valueFor dropped judge groupBits frameStatus trailer image after arrive inLimits byteCount sendLength appends padded ended onWire controlByte putOut good failureBit collisionBits outcomeBits addressBits nibble counted tally nibbles anyAt15 newEcr newEphsr autoRelease sendHead ifUsable ifSendable finish serve stepOf runOf
-usedReplies = run used powerUp .replies
+usedReplies = runOf lan91c96 used (powered paged lan91c96) .replies
 
 -- what is written of packet 0 after these inputs, from address 0 on
 abbrev pub writtenUpTo : ℕ → List Input → Bool
-writtenUpTo w inputs = allMarked w 0 0 (writtenBy 24 inputs powerUp unwritten)
+writtenUpTo w inputs = allMarked w 0 0 (writtenBy lan91c96 inputs (powered paged lan91c96) unwritten)
 
 -- A send writes its status word, at addresses 0 and 1, which no data write had reached (its packet is given back behind it, which forgets nothing); a stored frame writes all 70 bytes that its count counts, and no more.
 pub used-written : (writtenUpTo 1 toSend ≡ false) × (writtenUpTo 2 toSent ≡ true) × (writtenUpTo 70 toFrame ≡ true) × (writtenUpTo 71 toFrame ≡ false)
@@ -125,8 +126,8 @@ unfolding bit setBit clearBit flag lowByte highByte wordOf wordAt member some? o
 used-written = (refl, refl, refl, refl)
 
 -- Its send reads only written bytes,
-pub used-minds : OnlyWritten 24 used powerUp unwritten
-used-minds = all-minded 24 used powerUp unwritten used-test
+pub used-minds : OnlyWritten lan91c96 used (powered paged lan91c96) unwritten
+used-minds = all-minded lan91c96 used (powered paged lan91c96) unwritten used-test
 
 abbrev answer : ℕ → Reply
 answer v = record { number = 0; value = v }
@@ -137,5 +138,5 @@ unfolding usedReplies
 used-done = refl
 
 -- and so the chip of strips does the same.
-pub used-alike : StripsBeside used
-used-alike = strips-beside used used-minds
+pub used-alike : StripsBeside lan91c96 used
+used-alike = strips-beside lan91c96 used used-minds

@@ -10,14 +10,14 @@ use lib.ListN.{length, getD, set, take, length-set, length-take}
 use lib.Seq.{getD-set-same, getD-set-other}
 use Rattle.rules.specs.Bits.{lowByte}
 use Rattle.rules.specs.Lists.{member}
-use Rattle.rules.specs.Chip.{Layout, paged, Chip, pageNumbers, pagesAt, freeFor, free, powerUp}
+use Rattle.rules.specs.Chip.{Layout, paged, Chip, pageNumbers, pagesAt, freeFor, free, powered}
 use Rattle.rules.specs.Answers.{Effect, Turn}
 use Rattle.rules.specs.WellFormed.{Waits}
 use Rattle.rules.specs.Mmu.{decode, lowestNumber, freed}
 use Rattle.rules.specs.Registers.{Width, COMMAND, write, registerAt, headOf}
 use Rattle.rules.specs.Receive.{Frame, Arrival, stored, disabled, notAccepted, tooLong, bad, noRoom, after, verdict, arrive}
 use Rattle.rules.specs.Send.{Send, good, autoRelease}
-use Rattle.rules.specs.Step.{Input, driver, frame, sent, serve, stepOf, run, history}
+use Rattle.rules.specs.Step.{Input, driver, frame, sent, serve, stepOf, runOf}
 use Rattle.lists.specs.Facts.{if-not, nobody}
 use Rattle.lists.specs.Owned.{owned-none}
 use Rattle.wellformed.specs.Cases.{pick, by-step}
@@ -38,11 +38,11 @@ pub not-in-vain : (n : ℕ) (c : Chip) → Fits n c → NotInVain c
 not-in-vain n c w some = ⊎-elim (λ e. absurd (omega (arith, some, e))) (λ p. p) (w .0 .request)
 
 -- It is so after every run from a well-formed chip; so in no history does a chip ever wait although enough pages are free.
-pub run-not-in-vain : (inputs : List Input) (c : Chip) → Whole c → NotInVain (run inputs c .chip)
-run-not-in-vain inputs c w = not-in-vain 24 (run inputs c .chip) (run-whole inputs c w)
+pub run-not-in-vain : (n : ℕ) (inputs : List Input) (c : Chip) → Whole n c → NotInVain (runOf n inputs c .chip)
+run-not-in-vain n inputs c w = not-in-vain n (runOf n inputs c .chip) (run-whole n inputs c w)
 
-pub never-waits-in-vain : (inputs : List Input) → let c = history inputs .chip in 0 < c .regs .numbers .waiting → length (free c) < c .regs .numbers .waiting
-never-waits-in-vain inputs some = run-not-in-vain inputs powerUp (power-up-whole paged) some .short
+pub never-waits-in-vain : (n : ℕ) (l : Layout) (inputs : List Input) → let c = runOf n inputs (powered l n) .chip in 0 < c .regs .numbers .waiting → length (free c) < c .regs .numbers .waiting
+never-waits-in-vain n l inputs some = run-not-in-vain n inputs (powered l n) (power-up-whole n l) some .short
 
 -- the step gives back the pages of packet k: the ledger enters it first
 abbrev pub GivesBack : ℕ → Input → Chip → ℕ → Type 0

@@ -1,28 +1,35 @@
--- From the record of page lists to the lent state and back, field by field. Each way takes a record in order to one in order that stands for the same
--- chip; and a record of either form is known from its chip. So the two are inverse to each other, and records of the same chip convert into each other.
-use mathlib.Core.Path.{_≡_, ap, sym, subst, _∙_}
+-- From the record of page lists to the lent state and back, field by field, of either part. Each way takes a record in order to one in order that stands
+-- for the same chip; and a record of either form is known from its chip. So the two are inverse to each other, and records of the same chip convert into each other.
+use mathlib.Core.Path.{_≡_, ap, ap₂, sym, subst, _∙_}
 use mathlib.Core.List.{List, [], _++_, map}
-use Prim.Native.Nat.{ℕ, _/_, _%_}
+use Prim.Native.Nat.{ℕ, _*_, _-_, _/_, _%_, _≤_}
 use native.Mathlib.Omega.{arith}
-use lib.ListN.{length, length-map}
+use lib.ListN.{length, take, drop, replicate, length-map}
+use lib.Seq.{take-at, drop-at}
 use Rattle.rules.specs.Bits.{bit, wordOf}
+use Rattle.rules.specs.Parts.{IsPart}
 use Rattle.rules.specs.Chip.{paged, Chip, Pool, freeFor}
-use Rattle.rules.specs.WellFormed.{WellFormed}
+use Rattle.rules.specs.WellFormed.{FormedAt}
+use Rattle.wellformed.specs.Parts.{part-few}
 use Rattle.sets.specs.Views as sets
 use Rattle.sets.specs.Members.{setOf}
+use Rattle.sets.specs.Lists.{lists-length}
 use Rattle.queues.specs.Parts.{slots, part-long}
 use Rattle.state.specs.declared.Registers as declared
 use Rattle.state.specs.declared.Pages.{Pages}
 use Rattle.state.specs.declared.Queues.{Queues}
 use Rattle.state.specs.View as lent
 use Rattle.state.specs.View.{word, bytes}
-use Rattle.state.specs.Entry.{InOrderBy}
-use Rattle.state.specs.Only.{wordsOf, one-state}
+use Rattle.state.specs.Entry as state
+use Rattle.state.specs.Entry.{sizeIn, recordView, WholeBy}
+use Rattle.state.specs.Places.{places-told, names-part, record-cut, whole-back, view-back}
+use Rattle.state.specs.Only.{wordsOf}
+use Rattle.state.specs.Only as only
 use Rattle.listed.specs.declared.Page.{Page}
 use Rattle.listed.specs.declared.Registers.{Registers}
-use Rattle.listed.specs.Record.{used, mapOf, registersOf, poolOf, view, one-record}
+use Rattle.listed.specs.Record.{used, rowOf, mapOf, registersOf, ofPart, poolOf, view, rows-cut, one-record}
 use Rattle.listed.specs.Promise.{InOrder}
-use Rattle.listed.specs.Lists.{lists-sets, lists-rows, lists-small}
+use Rattle.listed.specs.Lists.{lists-sets, lists-rows, lists-small, rows-padded, sets-padded}
 use Rattle.listed.specs.Words.{Words, Typed, registers-back, words-kept, words-typed, typed-words}
 use Rattle.listed.specs.Fifos.{bytesOf, queueFrom, entries-from, sound-from, all-queues, all-rx, all-tx, all-completion}
 
@@ -36,7 +43,7 @@ pub record Lent : Type 0 where
   pub pages : Pages
   pub queues : Queues
 
--- To sets, the figures of the words are counted from the lists.
+-- To sets, the figures of the words are counted from the lists: with them MIR, whose low byte names the part.
 abbrev pub toSets : Listed → Lent
 toSets x =
     let r = x .registers in
@@ -52,6 +59,7 @@ toLists y =
     let q = y .queues .slots in
     record {
       registers = record {
+        packets = sizeIn w;
         tcr = word w 0;
         ephsr = word w 1;
         rcr = word w 2;
@@ -87,22 +95,22 @@ abbrev pub listedChip : Listed → List ℕ → Chip
 listedChip x mem = view (x .registers) (x .pages) mem
 
 abbrev pub lentChip : Lent → List ℕ → Chip
-lentChip y mem = lent.view (y .registers .words) (y .pages .sets) (y .queues .slots) mem
+lentChip y mem = recordView paged (y .registers .words) (y .pages .sets) (y .queues .slots) mem
 
 abbrev pub ListedInOrder : Listed → List ℕ → Type 0
 ListedInOrder x mem = InOrder (x .registers) (x .pages) mem
 
 abbrev pub LentInOrder : Lent → List ℕ → Type 0
-LentInOrder y mem = InOrderBy (y .registers) (y .pages) (y .queues) mem
+LentInOrder y mem = WholeBy (y .registers) (y .pages) (y .queues) mem
 
--- What the types say of the numbers of registers; packets and pages of a record in order are below 24 in any case.
+-- What the types say of the numbers of registers; packets and pages of a record in order are below its part's number in any case.
 abbrev pub ListedTyped : Listed → Type 0
 ListedTyped x = Typed (registersOf (x .registers))
 
 abbrev pub LentTyped : Lent → Type 0
 LentTyped y = Words (y .registers .words)
 
--- To sets: the same chip, in order.
+-- To sets: the same chip, in order. What a step is lent is made of the part's rows alone.
 module _ (x : Listed) (mem : List ℕ) (t : ListedTyped x) (o : ListedInOrder x mem) where
   abbrev r : Registers
   r = x .registers
@@ -110,12 +118,27 @@ module _ (x : Listed) (mem : List ℕ) (t : ListedTyped x) (o : ListedInOrder x 
   abbrev pool : Pool
   pool = poolOf r (x .pages)
 
-  pub sets-chip : (m : List ℕ) → lentChip (toSets x) m ≡ listedChip x m
-  sets-chip m = λ i. record {
+  abbrev words : List ℕ
+  words = toSets x .registers .words
+
+  abbrev places : List ℕ
+  places = map setOf (pool .pages)
+
+  few : r .packets ≤ 32
+  few = omega (arith, part-few (o .ready .part))
+
+  long : length places ≡ r .packets
+  long = length-map (pool .pages) setOf ∙ o .ready .well .count
+
+  back : map sets.pagesOf places ≡ pool .pages
+  back = lists-sets few (pool .pages) (o .ready .well .pages)
+
+  part-chip : (m : List ℕ) → lent.view words places (toSets x .queues .slots) m ≡ listedChip x m
+  part-chip m = λ i. record {
     regs = registers-back (registersOf r) t pool i;
     pool = record {
       layout = paged;
-      pages = lists-sets (pool .pages) (o .ready .well .pages) i;
+      pages = back i;
       rx = all-rx (r .rx) (r .tx) (r .done) (o .ready .queues) i;
       tx = all-tx (r .rx) (r .tx) (r .done) (o .ready .queues) i;
       completion = all-completion (r .rx) (r .tx) (r .done) (o .ready .queues) i;
@@ -123,40 +146,73 @@ module _ (x : Listed) (mem : List ℕ) (t : ListedTyped x) (o : ListedInOrder x 
     memory = m;
   }
 
-  pub sets-in-order : LentInOrder (toSets x) mem
-  sets-in-order = record {
+  part-in-order : state.InOrder words places (toSets x .queues .slots) mem
+  part-in-order = record {
     ready = record {
       sound = record {
         kept = words-kept (registersOf r) t pool (o .ready .well .numbers .bankSmall);
         queues = all-queues (r .rx) (r .tx) (r .done) (o .ready .queues) (registersOf r) (pool .pages);
         sets = record {
-          many = length-map (pool .pages) setOf ∙ o .ready .well .count;
-          free = ap (λ (ls : List (List ℕ)). wordOf 24 (length (freeFor paged ls))) (sym (lists-sets (pool .pages) (o .ready .well .pages)));
-          small = lists-small (pool .pages) (o .ready .well .pages);
+          part = subst IsPart (sym long) (o .ready .part);
+          free = ap₂ (λ (n : ℕ) (ls : List (List ℕ)). wordOf n (length (freeFor paged ls))) (sym (length-map (pool .pages) setOf)) (sym back);
+          small = lists-small few (pool .pages) (o .ready .well .pages);
         };
       };
-      well = subst WellFormed (sym (sets-chip [])) (o .ready .well);
+      well = subst (λ (n : ℕ). FormedAt n (lent.view words places (toSets x .queues .slots) [])) (sym long) (subst (FormedAt (r .packets)) (sym (part-chip [])) (o .ready .well));
     };
-    full = o .full;
+    full = o .full ∙ ap (λ (n : ℕ). 256 * n) (sym long);
   }
 
+  padded : toSets x .pages .sets ≡ places ++ replicate (24 - length places) 0
+  padded =
+      ap (λ (m : List (List Page)). map setOf (map used m)) (rows-cut (o .ready)) ∙ rows-padded (ofPart r (x .pages)) (24 - r .packets)
+      ∙ ap (λ (n : ℕ). places ++ replicate (24 - n) 0) (sym long)
+
+  pub sets-chip : (m : List ℕ) → lentChip (toSets x) m ≡ listedChip x m
+  sets-chip m = view-back (toSets x .pages .sets) (part-in-order .ready .sound) padded ∙ part-chip m
+
+  pub sets-in-order : LentInOrder (toSets x) mem
+  sets-in-order = whole-back (toSets x .pages .sets) part-in-order padded
+
   pub sets-typed : LentTyped (toSets x)
-  sets-typed = words-typed (registersOf r) t pool (o .ready .well)
+  sets-typed = words-typed (registersOf r) t pool few (o .ready .well)
 
 -- To lists: the same chip, in order.
 module _ (y : Lent) (mem : List ℕ) (o : LentInOrder y mem) where
   abbrev w : List ℕ
   w = y .registers .words
 
+  abbrev s : List ℕ
+  s = y .pages .sets
+
   abbrev q : List ℕ
   q = y .queues .slots
+
+  -- the rows of the part's packets, and as they stand in the record
+  abbrev rows : List (List Page)
+  rows = mapOf (map sets.pagesOf (state.ofPart w s))
+
+  rows-long : length rows ≡ sizeIn w
+  rows-long = length-map (map sets.pagesOf (state.ofPart w s)) rowOf ∙ lists-length (state.ofPart w s) ∙ places-told (o .holds)
+
+  rows-all : toLists y .pages ≡ rows ++ replicate (24 - sizeIn w) (rowOf [])
+  rows-all = ap (λ (l : List ℕ). mapOf (map sets.pagesOf l)) (record-cut (o .holds)) ∙ sets-padded (state.ofPart w s) (24 - sizeIn w)
+
+  rows-are : take (sizeIn w) (toLists y .pages) ≡ rows
+  rows-are = ap (take (sizeIn w)) rows-all ∙ take-at rows (replicate (24 - sizeIn w) (rowOf [])) (sizeIn w) rows-long
+
+  well : FormedAt (sizeIn w) (lentChip y [])
+  well = subst (λ (n : ℕ). FormedAt n (lentChip y [])) (places-told (o .holds)) (o .holds .ready .well)
+
+  pages-are : map used (take (sizeIn w) (toLists y .pages)) ≡ map sets.pagesOf (state.ofPart w s)
+  pages-are = ap (map used) rows-are ∙ lists-rows (omega (arith, part-few (names-part (o .holds)))) (map sets.pagesOf (state.ofPart w s)) (well .pages)
 
   pub lists-chip : (m : List ℕ) → listedChip (toLists y) m ≡ lentChip y m
   lists-chip m = λ i. record {
     regs = lent.registersIn w;
     pool = record {
       layout = paged;
-      pages = lists-rows (map sets.pagesOf (y .pages .sets)) (o .ready .well .pages) i;
+      pages = pages-are i;
       rx = entries-from (word w 6) (slots 0 q) i;
       tx = entries-from (word w 8) (slots 1 q) i;
       completion = entries-from (word w 9) (slots 2 q) i;
@@ -166,16 +222,18 @@ module _ (y : Lent) (mem : List ℕ) (o : LentInOrder y mem) where
 
   pub lists-in-order : ListedInOrder (toLists y) mem
   lists-in-order =
-      let queues = o .ready .sound .queues in
+      let queues = o .holds .ready .sound .queues in
       record {
         ready = record {
+          part = names-part (o .holds);
           queues = record {
             rx = sound-from (word w 6) (slots 0 q) (part-long 0 q (queues .long) (omega arith)) (queues .rx);
             tx = sound-from (word w 8) (slots 1 q) (part-long 1 q (queues .long) (omega arith)) (queues .tx);
             done = sound-from (word w 9) (slots 2 q) (part-long 2 q (queues .long) (omega arith)) (queues .completion);
           };
-          map = ap mapOf (sym (lists-rows (map sets.pagesOf (y .pages .sets)) (o .ready .well .pages)));
-          well = subst WellFormed (sym (lists-chip [])) (o .ready .well);
+          map = rows-are ∙ ap mapOf (sym pages-are);
+          rest = ap (drop (sizeIn w)) rows-all ∙ drop-at rows (replicate (24 - sizeIn w) (rowOf [])) (sizeIn w) rows-long;
+          well = subst (FormedAt (sizeIn w)) (sym (lists-chip [])) well;
         };
         full = o .full;
       }
@@ -189,7 +247,7 @@ listed-once x x′ mem mem′ o p e = let s = one-record (o .ready) (p .ready) e
 
 lent-once : (y y′ : Lent) (mem mem′ : List ℕ) → LentInOrder y mem → LentInOrder y′ mem′ → lentChip y mem ≡ lentChip y′ mem′ → y ≡ y′
 lent-once y y′ mem mem′ o p e =
-    let s = one-state (o .ready .sound) (p .ready .sound) e in
+    let s = only.one-record (o .holds) (p .holds) e in
     λ i. record { registers = record { words = s .0 i }; pages = record { sets = s .1 i }; queues = record { slots = s .2 i } }
 
 pub same-chip : (x : Listed) (y : Lent) (mem mem′ : List ℕ) → ListedInOrder x mem → LentInOrder y mem′ → LentTyped y → listedChip x mem ≡ lentChip y mem′ → Converts x y

@@ -12,9 +12,9 @@ use Rattle.queues.specs.Parts.{slots, slots-entries, slots-as}
 use Rattle.state.specs.View.{figures, queueIn}
 use Rattle.state.specs.Promise.{QueuesIn}
 use Rattle.state.specs.Only.{wordsOf}
-use Rattle.listed.specs.declared.Packet.{Packet}
 use Rattle.listed.specs.declared.Queue.{Queue}
 use Rattle.listed.specs.Record.{packet, number, slotsOf, entries, queueOf, SoundQueue, SoundQueues}
+use Rattle.listed.specs.Lists.{map-padded}
 
 -- the bytes of a queue, and the queue of bytes
 abbrev pub bytesOf : Queue → List ℕ
@@ -23,21 +23,9 @@ bytesOf q = map number (q .slots)
 abbrev pub queueFrom : ℕ → List ℕ → Queue
 queueFrom count p = record { count = count; slots = map packet p }
 
-zeros : (k : ℕ) → map number (replicate k (packet 0)) ≡ replicate k 0
-zeros zero = refl
-zeros (suc k) = ap (λ (t : List ℕ). 0 ∷ t) (zeros k)
-
 numbers-of : (l : List ℕ) (k : ℕ) → map number (map packet l ++ replicate k (packet 0)) ≡ l ++ replicate k 0
-numbers-of [] k = zeros k
+numbers-of [] k = map-padded number [] k (packet 0)
 numbers-of (x ∷ l) k = ap (λ (t : List ℕ). x ∷ t) (numbers-of l k)
-
-no-packets : (k : ℕ) → map packet (replicate k 0) ≡ replicate k (packet 0)
-no-packets zero = refl
-no-packets (suc k) = ap (λ (t : List Packet). packet 0 ∷ t) (no-packets k)
-
-packets-of : (l : List ℕ) (k : ℕ) → map packet (l ++ replicate k 0) ≡ map packet l ++ replicate k (packet 0)
-packets-of [] k = no-packets k
-packets-of (x ∷ l) k = ap (λ (t : List Packet). packet x ∷ t) (packets-of l k)
 
 pub entries-from : (n : ℕ) (p : List ℕ) → entries (queueFrom n p) ≡ take n p
 entries-from zero p = refl
@@ -68,7 +56,7 @@ module _ (q : Queue) (s : SoundQueue q) where
 pub sound-from : (n : ℕ) (p : List ℕ) → length p ≡ 24 → Slots p n (take n p) → SoundQueue (queueFrom n p)
 sound-from n p e s =
     let l = take n p in
-    let places : map packet p ≡ slotsOf l = ap (map packet) (s .same ∙ ap₂ (λ (a b : ℕ). l ++ replicate (a - b) 0) e (s .many)) ∙ packets-of l (24 - length l) in
+    let places : map packet p ≡ slotsOf l = ap (map packet) (s .same ∙ ap₂ (λ (a b : ℕ). l ++ replicate (a - b) 0) e (s .many)) ∙ map-padded packet l (24 - length l) 0 in
     record {
       fits = omega (arith, s .fits, e);
       same = (λ i. record { count = s .many i; slots = places i }) ∙ ap queueOf (sym (entries-from n p));

@@ -1,7 +1,7 @@
--- What a public entry over the record of page lists promised, for any input: document 01's step where the record is in order, else refusal 16.
+-- What a public entry over the record of page lists promised, for any input: document 01's step where the record is in order, else refusal 16. It is the step of the part that the record is (document 02, W9).
 use mathlib.Core.Path.{_≡_}
 use mathlib.Core.List.{List}
-use Prim.Native.Nat.{ℕ}
+use Prim.Native.Nat.{ℕ, _*_}
 use lib.ListN.{length}
 use Rattle.rules.specs.Answers.{Turn}
 use Rattle.rules.specs.Step.{Input, lent, step}
@@ -12,10 +12,10 @@ use Rattle.listed.specs.declared.Registers.{Registers}
 use Rattle.listed.specs.declared.Stepped.{Stepped}
 use Rattle.listed.specs.Record.{view, Ready}
 
--- a canonical record of a well-formed chip, beside its 6,144 bytes
+-- a canonical record of a well-formed chip, beside the 256 bytes of each page
 pub record InOrder (r : Registers) (m : List (List Page)) (mem : List ℕ) : Type 0 where
   pub ready : Ready r m
-  pub full : length mem ≡ 6144
+  pub full : length mem ≡ 256 * r .packets
 
 -- x is returned, and memory and output are then these: the turn t of the rules, on a record that is in order again
 pub record Right (t : Turn) (x : Stepped) (mem out : List ℕ) : Type 0 where

@@ -1,13 +1,15 @@
 -- What the record of page lists stands for, as the code had it: the chip of `rules`. A canonical record is as its view has it made, so it is known from its view.
-use mathlib.Core.Path.{_≡_, ap, sym, _∙_}
+-- It has 24 rows of pages and 24 slots for each queue, of either part (document 02, W9): which one it is, its number of packets says.
+use mathlib.Core.Path.{_≡_, ap, ap₂, sym, _∙_}
 use mathlib.Core.Bool.{cond}
 use mathlib.Core.List.{List, [], _∷_, _++_, map}
 use Prim.Native.Nat.{ℕ, _-_, _≤_}
 use lib.Dec.{eqb}
-use lib.ListN.{length, replicate, take}
+use lib.ListN.{length, replicate, take, drop, take-append-drop}
+use Rattle.rules.specs.Parts.{IsPart}
 use Rattle.rules.specs.Chip as rules
-use Rattle.rules.specs.Chip.{paged, Chip, Pool}
-use Rattle.rules.specs.WellFormed.{WellFormed}
+use Rattle.rules.specs.Chip.{paged, Chip, Pool, size}
+use Rattle.rules.specs.WellFormed.{FormedAt}
 use Rattle.listed.specs.declared.Page.{Page}
 use Rattle.listed.specs.declared.Packet.{Packet}
 use Rattle.listed.specs.declared.Queue.{Queue}
@@ -76,20 +78,30 @@ registersOf r = record {
   link = record { up = r .up; changed = r .changed };
 }
 
+-- the rows of the part's packets
+abbrev pub ofPart : Registers → List (List Page) → List (List Page)
+ofPart r m = take (r .packets) m
+
 abbrev pub poolOf : Registers → List (List Page) → Pool
-poolOf r m = record { layout = paged; pages = pagesOf m; rx = entries (r .rx); tx = entries (r .tx); completion = entries (r .done) }
+poolOf r m = record { layout = paged; pages = pagesOf (ofPart r m); rx = entries (r .rx); tx = entries (r .tx); completion = entries (r .done) }
 
 -- registers, page map and memory
 abbrev pub view : Registers → List (List Page) → List ℕ → Chip
 view r m mem = record { regs = registersOf r; pool = poolOf r m; memory = mem }
 
--- a canonical record of a well-formed chip (of which the memory's bytes are no part)
+-- a canonical record of a well-formed chip of its part (of which the memory's bytes are no part); the rows of no packet are empty
 pub record Ready (r : Registers) (m : List (List Page)) : Type 0 where
+  pub part : IsPart (r .packets)
   pub queues : SoundQueues (r .rx) (r .tx) (r .done)
-  pub map : SoundMap m
-  pub well : WellFormed (view r m [])
+  pub map : SoundMap (ofPart r m)
+  pub rest : drop (r .packets) m ≡ replicate (24 - r .packets) (rowOf [])
+  pub well : FormedAt (r .packets) (view r m [])
 
--- Queues, by their entries; maps, by their page lists; and so the record.
+-- all its rows: the part's, and empty ones behind them
+pub rows-cut : {r : Registers} {m : List (List Page)} → Ready r m → m ≡ ofPart r m ++ replicate (24 - r .packets) (rowOf [])
+rows-cut {r} {m} x = sym (take-append-drop (r .packets) m) ∙ ap (λ (t : List (List Page)). ofPart r m ++ t) (x .rest)
+
+-- Queues, by their entries; maps, by their page lists; the part, by how many these are; and so the record.
 same-queue : (q r : Queue) → SoundQueue q → SoundQueue r → entries q ≡ entries r → q ≡ r
 same-queue q r s t e = s .same ∙ ap queueOf e ∙ sym (t .same)
 
@@ -97,12 +109,19 @@ module _ {r s : Registers} {m n : List (List Page)} {a b : List ℕ} (x : Ready 
   of : {A : Type 0} (f : Chip → A) → f (view r m a) ≡ f (view s n b)
   of f = ap f e
 
+  same-part : r .packets ≡ s .packets
+  same-part = sym (x .well .count) ∙ of size ∙ y .well .count
+
+  same-rows : ofPart r m ≡ ofPart s n
+  same-rows = x .map ∙ ap mapOf (of (λ c. c .pool .pages)) ∙ sym (y .map)
+
   same-registers : r ≡ s
   same-registers =
       let rx = same-queue (r .rx) (s .rx) (x .queues .rx) (y .queues .rx) (of (λ c. c .pool .rx)) in
       let tx = same-queue (r .tx) (s .tx) (x .queues .tx) (y .queues .tx) (of (λ c. c .pool .tx)) in
       let done = same-queue (r .done) (s .done) (x .queues .done) (y .queues .done) (of (λ c. c .pool .completion)) in
       λ i. record {
+        packets = same-part i;
         tcr = of (λ c. c .regs .sending .tcr) i;
         ephsr = of (λ c. c .regs .sending .ephsr) i;
         rcr = of (λ c. c .regs .receiving .rcr) i;
@@ -127,4 +146,8 @@ module _ {r s : Registers} {m n : List (List Page)} {a b : List ℕ} (x : Ready 
       }
 
   pub one-record : (r ≡ s) × (m ≡ n) × (a ≡ b)
-  one-record = (same-registers, x .map ∙ ap mapOf (of (λ c. c .pool .pages)) ∙ sym (y .map), of (λ c. c .memory))
+  one-record = (
+    same-registers,
+    rows-cut x ∙ ap₂ (λ (k : ℕ) (t : List (List Page)). t ++ replicate (24 - k) (rowOf [])) same-part same-rows ∙ sym (rows-cut y),
+    of (λ c. c .memory),
+  )

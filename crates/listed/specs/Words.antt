@@ -2,9 +2,10 @@
 use mathlib.Core.Path.{_≡_, refl, ap₂, sym}
 use mathlib.Core.Bool.{Bool, true, false}
 use mathlib.Core.List.{List, [], _∷_}
-use Prim.Native.Nat.{ℕ, _+_, _*_, _/_, _%_, _^_, _<_}
+use Prim.Native.Nat.{ℕ, _+_, _*_, _/_, _%_, _^_, _≤_, _<_}
 use native.Mathlib.Omega.{arith}
 use lib.ListN.{length, getD}
+use lib.Pow.{pow-mono}
 use Rattle.rules.specs.Bits.{bit, flag, wordOf, wordAt}
 use Rattle.rules.specs.Lists.{member, some?}
 use Rattle.rules.specs.Chip.{Registers, Pool, freeFor}
@@ -107,20 +108,22 @@ unfolding Written wordAt
 eight-back = written-out 8 (λ l. Bytes l → bytes (wordAt 0 l) (bytes (wordAt 2 l) (bytes (wordAt 4 l) (bytes (wordAt 6 l) []))) ≡ l)
     (λ a b c d e f g j h. λ i. low-of a b (h 0) i ∷ high-of a b (h 0) i ∷ low-of c d (h 2) i ∷ high-of c d (h 2) i ∷ low-of e f (h 4) i ∷ high-of e f (h 4) i ∷ low-of g j (h 6) i ∷ high-of g j (h 6) i ∷ [])
 
--- A pool's figures are words, where it is well formed: an allocated packet is below 24, so distinct ones are at most 24, and their set has 24 bits.
+-- A pool's figures are words, where it is well formed: an allocated packet is below n, so distinct ones are at most n, and their set has n bits, at most 32.
 record SmallQueue (l : List ℕ) : Type 0 where
   count : length l < 65536
   lower : setOf l % 65536 < 65536
   upper : setOf l / 65536 < 65536
 
-small-queue : (ls : List (List ℕ)) (l : List ℕ) → length ls ≡ 24 → Distinct l → ((k : ℕ) → member k l ≡ true → some? (getD ls k []) ≡ true) → SmallQueue l
-small-queue ls l long d h =
-    let low : (k : ℕ) → member k l ≡ true → k < 24 = λ k m. omega (arith, has-small ls k (h k m), long) in
-    let small : setOf l < 2 ^ 24 = set-small 24 l d (member-each (λ k. k < 24) l low) in
-    record { count = omega (arith, distinct-few 24 l d low); lower = omega arith; upper = omega (arith, small) }
+module _ {n : ℕ} (few : n ≤ 32) where
+  small-queue : (ls : List (List ℕ)) (l : List ℕ) → length ls ≡ n → Distinct l → ((k : ℕ) → member k l ≡ true → some? (getD ls k []) ≡ true) → SmallQueue l
+  small-queue ls l long d h =
+      let low : (k : ℕ) → member k l ≡ true → k < n = λ k m. omega (arith, has-small ls k (h k m), long) in
+      let small = set-small n l d (member-each (λ k. k < n) l low) in
+      let most : 2 ^ n ≤ 2 ^ 32 = pow-mono few in
+      record { count = omega (arith, few, distinct-few n l d low); lower = omega arith; upper = omega (arith, small, most) }
 
-free-small : (r : Registers) (p : Pool) → Formed 24 r p → wordOf 24 (length (freeFor (p .layout) (p .pages))) < 65536
-free-small r p well = two _ _ (omega arith) (omega (arith, free-total (p .layout) 24 (p .pages) (good-lists well)))
+  mir-small : (r : Registers) (p : Pool) → Formed n r p → wordOf (length (p .pages)) (length (freeFor (p .layout) (p .pages))) < 65536
+  mir-small r p well = two _ _ (omega (arith, few, well .count)) (omega (arith, few, free-total (p .layout) n (p .pages) (good-lists well)))
 
 module _ (r : Registers) (t : Typed r) (p : Pool) where
   pub registers-back : registersIn (wordsOf r p) ≡ r
@@ -162,12 +165,12 @@ module _ (r : Registers) (t : Typed r) (p : Pool) where
   }
 
   -- and they are words, where the chip is well formed
-  pub words-typed : Formed 24 r p → Words (wordsOf r p)
+  pub words-typed : {n : ℕ} → n ≤ 32 → Formed n r p → Words (wordsOf r p)
   unfolding wordAt
-  words-typed well i =
+  words-typed few well i =
       let queues = well .queues in
-      let rx = small-queue (p .pages) (p .rx) (well .count) (queues .rxDistinct) (queues .rxAllocated) in
-      let tx = small-queue (p .pages) (p .tx) (well .count) (queues .txDistinct) (queues .txAllocated) in
+      let rx = small-queue few (p .pages) (p .rx) (well .count) (queues .rxDistinct) (queues .rxAllocated) in
+      let tx = small-queue few (p .pages) (p .tx) (well .count) (queues .txDistinct) (queues .txAllocated) in
       let byte = t .bytes in
       let words = t .words in
       let station : (k : ℕ) → wordAt k (r .receiving .station) < 65536 = λ k. two _ _ (t .station k) (t .station (k + 1)) in
@@ -183,7 +186,7 @@ module _ (r : Registers) (t : Typed r) (p : Pool) where
             (
               words 2,
               (
-                free-small r p well,
+                mir-small few r p well,
                 (
                   two _ _ (byte 0) high,
                   (
@@ -193,7 +196,7 @@ module _ (r : Registers) (t : Typed r) (p : Pool) where
                       (
                         tx .count,
                         (
-                          omega (arith, queues .completionFew),
+                          omega (arith, few, queues .completionFew),
                           (
                             station 0,
                             (

@@ -1,5 +1,5 @@
 // The record of page lists, as the chip's code had it before page sets: declarations alone. `specs/` has what it stood for, what a step on it promised,
-// and that the lent state describes the same chip.
+// and that the lent state describes the same chip. It has places for 24 packets, and says how many its part has (document 02, W9).
 use state::Answer;
 
 pub struct Packet(pub u8);
@@ -12,8 +12,9 @@ pub struct Queue {
     pub slots: [Packet; 24],
 }
 
-// Document 01's registers by bank, the two latches, the link and its change, and the three FIFOs.
+// How many packets the part has, 18 or 24; document 01's registers by bank, the two latches, the link and its change, and the three FIFOs.
 pub struct Registers {
+    pub packets: u8,
     pub tcr: u16,
     pub ephsr: u16,
     pub rcr: u16,
@@ -37,7 +38,7 @@ pub struct Registers {
     pub done: Queue,
 }
 
-// What a step returned: the pages of packet k stood in row k, 255 in each place that was left.
+// What a step returned: the pages of packet k stood in row k, 255 in each place that was left, and in every place of a row of no packet of the part.
 pub struct Stepped {
     pub answer: Answer,
     pub registers: Registers,

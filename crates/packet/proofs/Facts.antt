@@ -1,5 +1,5 @@
 -- What the proofs of this crate, and of those above it, need of `Room`, of the pages that are left in a walk, and of the image of a frame.
-use mathlib.Core.Path.{_≡_, refl, ap, ap₂, sym, _∙_}
+use mathlib.Core.Path.{_≡_, refl, ap, ap₂, sym, subst, _∙_}
 use mathlib.Core.Bool.{true}
 use mathlib.Core.List.{List, [], _∷_, _++_}
 use Prim.Native.Nat.{ℕ, zero, suc, _+_, _-_, _*_, _/_, _%_, _^_, _≤_, _<_}
@@ -17,11 +17,11 @@ use Rattle.lists.specs.Bytes.{Below, put-append, length-put, value-one, value-t
 use Rattle.lists.specs.Facts.{member-later}
 use Rattle.sets.specs.Views.{pagesOf}
 use Rattle.sets.specs.Pages.{pages-count}
-use Rattle.packet.specs.Room.{Room, imageOf}
+use Rattle.packet.specs.Room.{Room, InPage, imageOf}
 
 -- a set that stands for a page list has room in memory where the list has
-pub room-of : (end set : ℕ) (pages memory : List ℕ) → pagesOf set ≡ pages → length memory ≡ 6144 → Below 24 pages → end ≤ 256 * length pages → Room end set memory
-room-of end set pages memory e w b h = record { whole = w; below = rw e b; within = rw e h }
+pub room-of : (n end set : ℕ) (pages memory : List ℕ) → pagesOf set ≡ pages → length memory ≡ 256 * n → Below n pages → end ≤ 256 * length pages → Room end set memory
+room-of n end set pages memory e w b h = let m : length memory / 256 ≡ n = omega (arith, w) in record { below = rw (e, m) b; within = rw e h }
 
 -- what is stored is the image of the rules
 pub image-is : (f : Frame) (n : ℕ) → image f n ≡ imageOf (frameStatus f n) (countOf n) n (f .bytes)
@@ -57,11 +57,15 @@ module _ (pages rest : List ℕ) (k : ℕ) (e : rest ≡ drop k pages) where
 
 module _ {end : ℕ} {pages : ℕ} {memory : List ℕ} (h : Room end pages memory) where
   pub room-less : (e : ℕ) → e ≤ end → Room e pages memory
-  room-less e k = record { whole = h .whole; below = h .below; within = omega (arith, h .within) }
+  room-less e k = record { below = h .below; within = omega (arith, h .within) }
+
+  -- a place in the first page, with the rest of it
+  pub room-place : (i a : ℕ) → InPage i (pagesOf pages) a → i + (256 - a % 256) ≤ length memory
+  room-place i a p = let r = p (length memory / 256) (h .below) in omega (arith, r)
 
   -- bytes that are put leave the room
   pub room-put : {after : List ℕ} (bytes l : List ℕ) (a : ℕ) → after ≡ putBytes bytes a l memory → Room end pages after
-  room-put bytes l a e = record { whole = ap length e ∙ length-put bytes a l memory ∙ h .whole; below = h .below; within = h .within }
+  room-put bytes l a e = record { below = subst (λ (n : ℕ). Below (n / 256) (pagesOf pages)) (sym (ap length e ∙ length-put bytes a l memory)) (h .below); within = h .within }
 
   -- a packet has at most 32 pages
   pub room-small : pages < 2 ^ 32 → end ≤ 8192
@@ -70,8 +74,7 @@ module _ {end : ℕ} {pages : ℕ} {memory : List ℕ} (h : Room end pages memor
   -- the pages that are left from the one of an address on
   pub room-rest : (rest a : ℕ) → pagesOf rest ≡ drop (a / 256) (pagesOf pages) → a < end → Room 1 rest memory
   room-rest rest a e k = record {
-    whole = h .whole;
-    below = rest-below (pagesOf pages) (pagesOf rest) (a / 256) e 24 (h .below);
+    below = rest-below (pagesOf pages) (pagesOf rest) (a / 256) e (length memory / 256) (h .below);
     within = omega (arith, h .within, rest-length (pagesOf pages) (pagesOf rest) (a / 256) e);
   }
 

@@ -8,22 +8,21 @@ ghost use lib.Seq.{sets};
 ghost use Rattle.rules.specs.Bits.{lowByte, highByte};
 ghost use Rattle.rules.specs.Packet.{place, getBytes, putBytes};
 ghost use Rattle.rules.specs.Data.{valueOf};
-ghost use Rattle.lists.specs.Bytes.{Below};
 ghost use Rattle.sets.specs.Views.{pagesOf};
-ghost use Rattle.packet.specs.Room.{Room};
+ghost use Rattle.packet.specs.Room.{Room, InPage};
 
 // Where in memory the address lies, where its page is the first of those that are left; the rest of this page is in memory too.
 pub fn place_in(rest: u32, at: Address) -> usize
-    requires { ⌜ (0 < length (pagesOf rest)) × Below 24 (pagesOf rest) ⌝ }
-    ensures { λ r. ⌜ (r ≡ place (pagesOf rest) (at .0 % 256)) × (r + (256 - at .0 % 256) ≤ 6144) ⌝ }
+    requires { ⌜ 0 < length (pagesOf rest) ⌝ }
+    ensures { λ r. ⌜ (r ≡ place (pagesOf rest) (at .0 % 256)) × InPage r (pagesOf rest) (at .0) ⌝ }
 {
     sets::lowest_page(rest).0 as usize * 256 + at.0 as usize % 256
 }
 
 // The same with all pages of the packet.
 pub fn place_of(pages: u32, at: Address) -> usize
-    requires { ⌜ (at .0 < 256 * length (pagesOf pages)) × Below 24 (pagesOf pages) ⌝ }
-    ensures { λ r. ⌜ (r ≡ place (pagesOf pages) (at .0)) × (r + (256 - at .0 % 256) ≤ 6144) ⌝ }
+    requires { ⌜ at .0 < 256 * length (pagesOf pages) ⌝ }
+    ensures { λ r. ⌜ (r ≡ place (pagesOf pages) (at .0)) × InPage r (pagesOf pages) (at .0) ⌝ }
 {
     sets::nth_page(pages, at.0 as u32 / 256).0 as usize * 256 + at.0 as usize % 256
 }

@@ -8,14 +8,16 @@ use Rattle.rules.specs.Bits.{wordOf}
 use Rattle.rules.specs.Chip.{Registers, Layout, paged, Pool, Chip, freeFor}
 use Rattle.rules.specs.Fields.{setPages, inRegisters, inPool}
 use Rattle.rules.specs.WellFormed.{GoodPages}
+use Rattle.wellformed.specs.Parts.{part-few}
 use Rattle.wellformed.specs.Settle.{request-few}
 use Rattle.state.specs.View.{word, registersIn, figures, withMir, listsOf, poolOf, viewOf, Kept}
+use Rattle.state.specs.Pages.{numbers-length}
 use Rattle.state.specs.Promise.{QueuesIn, PagesIn, SetsIn, SoundOf, ReadyOf, Sets, sets-chip}
 
 -- packet k, which has none, may get m pages: so many are free
 pub record Grantable (k m : ℕ) (ls : List (List ℕ)) : Type 0 where
-  pub good : GoodPages 24 ls
-  pub number : k < 24
+  pub good : GoodPages (length ls) ls
+  pub number : k < length ls
   pub none : getD ls k [] ≡ []
   pub short : m ≤ 8
   pub few : m ≤ length (freeFor paged ls)
@@ -44,6 +46,10 @@ module _ {l : Layout} {f : List (List ℕ) → List (List ℕ)} {w s w′ s′ :
 
   pub repages-queues : QueuesIn (figures w) q → QueuesIn (figures w′) q
   repages-queues h = mir-alone q (a .still) h
+
+  -- as many packets as before, where the lists are as many
+  pub repages-size : length (f (listsOf l s)) ≡ length (listsOf l s) → length s′ ≡ length s
+  repages-size e = sym (numbers-length l s′) ∙ ap length (a .pages) ∙ e ∙ numbers-length l s
 
   -- the chip after it; and the state is sound
   pub repages-chip : (mem : List ℕ) → viewOf l w′ s′ q mem ≡ inPool (λ p. setPages (f (p .pages)) p) (viewOf l w s q mem)
@@ -101,4 +107,4 @@ waits-few {w = w} r = request-few (registersIn w .numbers) (r .well .request)
 -- MIR's high byte is the number of free pages.
 pub free-told : {l : Layout} (w s : List ℕ) → PagesIn l (figures w) s → word w 4 / 256 ≡ length (freeFor l (listsOf l s))
 unfolding wordOf
-free-told w s h = omega (arith, h .free)
+free-told w s h = omega (arith, h .free, part-few (h .part))

@@ -11,6 +11,7 @@ use Rattle.rules.specs.Chip.{Registers, Layout, paged, Pool, pageNumbers, empty
 use Rattle.rules.specs.Fields.{setRx, setTx, setCompletion, inPool}
 use Rattle.rules.specs.WellFormed.{Distinct}
 use Rattle.lists.specs.Each.{Each, member-each}
+use Rattle.wellformed.specs.Parts.{part-few}
 use Rattle.wellformed.specs.Pool.{has-small}
 use Rattle.sets.specs.Members.{setOf}
 use Rattle.queues.specs.Slots.{Slots}
@@ -35,12 +36,12 @@ pub record Rejoins (f : Pool → Pool) (w q w′ q′ : List ℕ) : Type 0 where
   pub queues : QueuesIn (figures w′) q′
 
 -- no packet has pages and no queue has entries; no register changes
-pub record EmptiedOf (l : Layout) (w w′ s′ q′ : List ℕ) : Type 0 where
+pub record EmptiedOf (l : Layout) (n : ℕ) (w w′ s′ q′ : List ℕ) : Type 0 where
   pub regs : registersIn w′ ≡ registersIn w
-  pub pool : poolOf l (figures w′) s′ q′ ≡ emptyPool l 24
+  pub pool : poolOf l (figures w′) s′ q′ ≡ emptyPool l n
   pub sound : SoundOf l w′ s′ q′
 
-abbrev pub Emptied : List ℕ → List ℕ → List ℕ → List ℕ → Type 0
+abbrev pub Emptied : ℕ → List ℕ → List ℕ → List ℕ → List ℕ → Type 0
 Emptied = EmptiedOf paged
 
 -- the chip after it; and the state is sound
@@ -50,7 +51,7 @@ rejoins-chip {f} {w} {q} {w′} {q′} a l s mem =
     ∙ ap (λ (p : Pool). record { regs = registersIn w; pool = p; memory = mem }) (a .pool l s)
 
 pub rejoins-sets : {l : Layout} {f : Pool → Pool} {w q w′ q′ s : List ℕ} → Rejoins f w q w′ q′ → PagesIn l (figures w) s → PagesIn l (figures w′) s
-rejoins-sets a e = record { many = e .many; free = a .free ∙ e .free; small = e .small }
+rejoins-sets a e = record { part = e .part; free = a .free ∙ e .free; small = e .small }
 
 pub rejoins-sound : {l : Layout} {f : Pool → Pool} {w q w′ q′ s : List ℕ} → Rejoins f w q w′ q′ → PagesIn l (figures w) s → SoundOf l w′ s q′
 rejoins-sound a e = record { kept = a .kept; queues = a .queues; sets = rejoins-sets a e }
@@ -126,7 +127,7 @@ module _ (c q p l : List ℕ) (n : ℕ) (h : QueuesIn c q) (e : Slots p n l) (lo
 -- Who may join, on a state that is in order: a packet number that the queue has not.
 module _ {i : Layout} {w s q : List ℕ} (r : ReadyOf i w s q) (k : ℕ) (number : k < 24) where
   small-entries : (l : List ℕ) → ((j : ℕ) → member j l ≡ true → some? (getD (listsOf i s) j []) ≡ true) → Each (λ j. j < 24) l
-  small-entries l h = member-each (λ j. j < 24) l (λ j m. omega (arith, has-small (listsOf i s) j (h j m), r .well .count))
+  small-entries l h = member-each (λ j. j < 24) l (λ j m. omega (arith, has-small (listsOf i s) j (h j m), r .well .count, part-few (r .sound .sets .part)))
 
   pub may-join-rx : member k (queueIn 0 (word w 6) q) ≡ false → MayJoin k (queueIn 0 (word w 6) q)
   may-join-rx e = record { once = (e, r .well .queues .rxDistinct); small = (number, small-entries _ (r .well .queues .rxAllocated)) }
@@ -140,4 +141,4 @@ head-told k count q h some = slots-head (slots k q) count (queueIn k count q) h 
 
 -- A packet is in RX or TX where one of its kept bits is set.
 pub queued-told : {i : Layout} {w s q : List ℕ} → ReadyOf i w s q → (k : ℕ) → bit k (rxBits w) || bit k (txBits w) ≡ member k (queueIn 0 (word w 6) q) || member k (queueIn 1 (word w 8) q)
-queued-told {i} r k = queued-kept {mem = replicate (256 * pageNumbers i 24) 0} (record { ready = r; full = length-replicate {A = ℕ} (256 * pageNumbers i 24) 0 }) k
+queued-told {i} {s = s} r k = queued-kept {mem = replicate (256 * pageNumbers i (length s)) 0} (record { ready = r; full = length-replicate {A = ℕ} (256 * pageNumbers i (length s)) 0 }) k

@@ -1,6 +1,5 @@
 // The figures that the words keep: of RX and of TX how many entries and which packets they are, and all of them where there are none.
 use queues::marks;
-use state::ALL_FREE;
 use state::COMPLETION_COUNT;
 use state::IN_RX;
 use state::IN_RX_HIGH;
@@ -49,15 +48,15 @@ pub fn store_tx(words: &mut [u16], count: u16, bits: u32)
     words[IN_TX_HIGH] = marks::high_half(bits);
 }
 
-// No packet has pages, and no queue has entries.
-pub fn store_none(words: &mut [u16])
+// No packet of so many has pages, and no queue has entries.
+pub fn store_none(words: &mut [u16], packets: u8)
     requires { ⌜ Kept (now words) ⌝ }
-    ensures { λ _. ⌜ Recounts noFigures (now (words .entry)) (now (words .exit)) ⌝ }
+    ensures { λ _. ⌜ Recounts (noFigures packets) (now (words .entry)) (now (words .exit)) ⌝ }
 {
     words[RX_COUNT] = 0;
     words[TX_COUNT] = 0;
     words[COMPLETION_COUNT] = 0;
-    words[MIR] = ALL_FREE;
+    words[MIR] = bits::word(packets, packets);
     words[IN_RX] = 0;
     words[IN_RX_HIGH] = 0;
     words[IN_TX] = 0;

@@ -31,6 +31,7 @@ ghost use mathlib.Core.List.{[], _∷_, _++_};
 ghost use Prim.Native.Nat.{_<_};
 ghost use lib.ListN.{length, getD, drop};
 ghost use Rattle.rules.specs.Bits.{bit};
+ghost use Rattle.rules.specs.Parts.{IsPart};
 ghost use Rattle.rules.specs.Fields.{setRx, setTx, setCompletion};
 ghost use Rattle.queues.specs.Parts.{slots};
 ghost use Rattle.state.specs.View.{word, figures, rxBits, txBits, queueIn, Kept};
@@ -161,10 +162,11 @@ pub fn empty_completion(words: &mut [u16], queues: &mut [u8])
 
 // No packet has pages, and all queues are empty, whatever the figures were.
 pub fn reset(words: &mut [u16], sets: &mut [u32], queues: &mut [u8])
-    requires { ⌜ Kept (now words) × (length (now sets) ≡ 24) × (length (now queues) ≡ 72) ⌝ }
-    ensures { λ _. ⌜ Emptied (now (words .entry)) (now (words .exit)) (now (sets .exit)) (now (queues .exit)) ⌝ }
+    requires { ⌜ Kept (now words) × IsPart (length (now sets)) × (length (now queues) ≡ 72) ⌝ }
+    ensures { λ _. ⌜ Emptied (length (now (sets .entry))) (now (words .entry)) (now (words .exit)) (now (sets .exit)) (now (queues .exit)) ⌝ }
 {
+    let packets = sets.len() as u8;
     sets::cleared(sets);
     queues::empty(queues);
-    store_none(words);
+    store_none(words, packets);
 }

@@ -47,7 +47,7 @@ pub fn grant(words: &mut [u16], sets: &mut [u32], packet: Packet, need: u32) -> 
 
 // The packet's pages are free again.
 pub fn make_free(words: &mut [u16], sets: &mut [u32], packet: Packet)
-    requires { ⌜ Kept (now words) × SetsIn (figures (now words)) (now sets) × GoodPages 24 (map pagesOf (now sets)) × (packet .0 < 24) ⌝ }
+    requires { ⌜ Kept (now words) × SetsIn (figures (now words)) (now sets) × GoodPages (length (now sets)) (map pagesOf (now sets)) × (packet .0 < length (now sets)) ⌝ }
     ensures { λ _. ⌜ Repages (λ ls. set ls (packet .0) []) (now (words .entry)) (now (sets .entry)) (now (words .exit)) (now (sets .exit)) ⌝ }
 {
     let pages = sets::page_count(sets[packet.0 as usize]);

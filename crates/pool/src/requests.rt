@@ -28,7 +28,7 @@ pub fn give_result(words: &mut [u16], result: u8, waiting: u16)
 
 // An allocation is granted: the lowest unallocated number gets the lowest free pages, the result reads it, and none waits.
 pub fn allocate(words: &mut [u16], sets: &mut [u32], need: u32)
-    requires { ⌜ Kept (now words) × SetsIn (figures (now words)) (now sets) × GoodPages 24 (map pagesOf (now sets)) × (1 ≤ need) × (need ≤ 8) × (need ≤ length (freeFor paged (map pagesOf (now sets)))) ⌝ }
+    requires { ⌜ Kept (now words) × SetsIn (figures (now words)) (now sets) × GoodPages (length (now sets)) (map pagesOf (now sets)) × (1 ≤ need) × (need ≤ 8) × (need ≤ length (freeFor paged (map pagesOf (now sets)))) ⌝ }
     ensures { λ _. ⌜ Alters (rules.grant need) (now (words .entry)) (now (sets .entry)) (now (words .exit)) (now (sets .exit)) ⌝ }
 {
     let number = sets::lowest_unallocated(sets) as u8;
@@ -38,7 +38,7 @@ pub fn allocate(words: &mut [u16], sets: &mut [u32], need: u32)
 
 // An allocation that waits is granted where as many pages are free.
 fn settle(words: &mut [u16], sets: &mut [u32])
-    requires { ⌜ Kept (now words) × SetsIn (figures (now words)) (now sets) × GoodPages 24 (map pagesOf (now sets)) × (word (now words) 23 ≤ 8) ⌝ }
+    requires { ⌜ Kept (now words) × SetsIn (figures (now words)) (now sets) × GoodPages (length (now sets)) (map pagesOf (now sets)) × (word (now words) 23 ≤ 8) ⌝ }
     ensures { λ _. ⌜ Alters rules.settle (now (words .entry)) (now (sets .entry)) (now (words .exit)) (now (sets .exit)) ⌝ }
 {
     let need = words[WAITING] as u32;
@@ -53,7 +53,7 @@ fn settle(words: &mut [u16], sets: &mut [u32])
 
 // The packet's pages are given back.
 pub fn give_back(words: &mut [u16], sets: &mut [u32], packet: Packet)
-    requires { ⌜ Kept (now words) × SetsIn (figures (now words)) (now sets) × GoodPages 24 (map pagesOf (now sets)) × (packet .0 < 24) × (word (now words) 23 ≤ 8) ⌝ }
+    requires { ⌜ Kept (now words) × SetsIn (figures (now words)) (now sets) × GoodPages (length (now sets)) (map pagesOf (now sets)) × (packet .0 < length (now sets)) × (word (now words) 23 ≤ 8) ⌝ }
     ensures { λ _. ⌜ Alters (rules.giveBack (packet .0)) (now (words .entry)) (now (sets .entry)) (now (words .exit)) (now (sets .exit)) ⌝ }
 {
     make_free(words, sets, packet);

@@ -1,13 +1,14 @@
 -- A frame that is to be stored in page sets: the number may get its pages, and the frame fits in them.
-use mathlib.Core.Path.{_≡_, ap}
+use mathlib.Core.Path.{_≡_, ap, sym, subst}
 use mathlib.Core.List.{List, map}
-use Prim.Native.Nat.{ℕ, _≤_, _<_}
+use Prim.Native.Nat.{ℕ, _*_, _≤_, _<_}
 use native.Mathlib.Omega.{arith}
 use lib.ListN.{length, take}
 use lib.Seq.{length-take-le}
 use Rattle.rules.specs.Chip.{paged, freeFor}
 use Rattle.rules.specs.Lists.{member, freeBelow}
 use Rattle.rules.specs.Packet.{putBytes}
+use Rattle.rules.specs.WellFormed.{GoodPages}
 use Rattle.rules.specs.Receive.{Frame, dataLength, countOf, pagesFor, needed, frameStatus, image}
 use Rattle.lists.specs.Facts.{member-take, member-free}
 use Rattle.wellformed.specs.Pages.{first-empty}
@@ -33,17 +34,17 @@ module _ {w s q : List ℕ} {f : Frame} (t : Stowable w s q f) where
 
   pub grantable : (k m : ℕ) → k ≡ number t → m ≡ need t → Grantable k m ls
   grantable k m a b = rw (a, b) (record {
-    good = t .ready .well .pages;
-    number = number-small t;
+    good = subst (λ (j : ℕ). GoodPages j ls) (sym (lists-length s)) (t .ready .well .pages);
+    number = omega (arith, number-small t, lists-length s);
     none = first-empty ls;
     short = omega (arith, few-needed t);
     few = enough t;
   })
 
-  pub room : (pages : ℕ) (mem : List ℕ) → pagesOf pages ≡ grant → length mem ≡ 6144 → Room (countOf n) pages mem
+  pub room : (pages : ℕ) (mem : List ℕ) → pagesOf pages ≡ grant → length mem ≡ 256 * length s → Room (countOf n) pages mem
   unfolding needed pagesFor
   room pages mem u h =
-      room-of (countOf n) pages grant mem u h (λ p x. omega (arith, member-free (length ls) ls p (member-take p (need t) (freeFor paged ls) x) .0, lists-length s, t .ready .sound .sets .many))
+      room-of (length s) (countOf n) pages grant mem u h (λ p x. omega (arith, member-free (length ls) ls p (member-take p (need t) (freeFor paged ls) x) .0, lists-length s))
       (omega (arith, length-take-le (need t) (freeFor paged ls) (enough t)))
 
   -- the memory with the frame written

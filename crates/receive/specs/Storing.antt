@@ -13,6 +13,7 @@ use Rattle.rules.specs.Packet.{putBytes}
 use Rattle.rules.specs.Receive.{Frame, badCrc, dataLength, countOf, pagesFor, needed, image, stow}
 use Rattle.lists.specs.Facts.{if-not}
 use Rattle.lists.specs.Each.{each-member}
+use Rattle.wellformed.specs.Parts.{part-few}
 use Rattle.wellformed.specs.Count.{distinct-few}
 use Rattle.wellformed.specs.Pool.{number-free, number-not-rx}
 use Rattle.wellformed.specs.Frames as frames
@@ -71,11 +72,11 @@ module _ {l : Layout} {w s q : List ℕ} {f : Frame} (t : StowableOf l w s q f) 
   pub few-needed : need ≤ 7
   few-needed = needs-seven (registersIn w) len (fits .short)
 
-  pub number-small : number < 24
+  pub number-small : number < length s
   number-small = number-free (t .ready .well) (omega (arith, some-needed, enough))
 
   joins : MayJoin number rx
-  joins = may-join-rx (t .ready) number number-small (if-not (member number rx) (number-not-rx (t .ready .well)))
+  joins = may-join-rx (t .ready) number (omega (arith, number-small, part-few (t .ready .sound .sets .part))) (if-not (member number rx) (number-not-rx (t .ready .well)))
 
   rx-room : word w 6 < 24
   rx-room = omega (arith, distinct-few 24 (number ∷ rx) (joins .once) (each-member (λ j. j < 24) (number ∷ rx) (joins .small)), t .ready .sound .queues .rx .many)

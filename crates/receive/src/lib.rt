@@ -16,6 +16,7 @@ use state::RCR;
 use state::flags;
 ghost use mathlib.Core.Path.{_≡_};
 ghost use mathlib.Core.Bool.{true, false};
+ghost use Prim.Native.Nat.{_*_};
 ghost use lib.ListN.{length};
 ghost use Rattle.rules.specs.Answers.{doneWith};
 ghost use Rattle.rules.specs.Fields.{setOverrun, inRegisters};
@@ -91,7 +92,7 @@ pub fn arrived(
     frame: &[u8],
     alignment: bool,
 ) -> Answer
-    requires { ⌜ Ready (now words) (now sets) (now queues) × (length (now memory) ≡ 6144) ⌝ }
+    requires { ⌜ Ready (now words) (now sets) (now queues) × (length (now memory) ≡ 256 * length (now sets)) ⌝ }
     ensures { λ a. ⌜ Makes (arrive (frameOf (now (frame .entry)) alignment) (view (now (words .entry)) (now (sets .entry)) (now (queues .entry)) (now (memory .entry)))) a (now (words .exit)) (now (sets .exit)) (now (queues .exit)) (now (memory .exit)) ⌝ }
 {
     if frame.len() < 18 {

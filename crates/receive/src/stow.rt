@@ -8,6 +8,7 @@ use state::Answer;
 use state::CONTROL;
 use state::RCR;
 ghost use mathlib.Core.Path.{_≡_};
+ghost use Prim.Native.Nat.{_*_};
 ghost use lib.ListN.{length};
 ghost use Rattle.rules.specs.Answers.{doneWith};
 ghost use Rattle.rules.specs.Receive.{stow};
@@ -24,7 +25,7 @@ pub fn stowed(
     frame: &[u8],
     alignment: bool,
 ) -> Answer
-    requires { ⌜ Stowable (now words) (now sets) (now queues) (frameOf (now frame) alignment) × (length (now memory) ≡ 6144) ⌝ }
+    requires { ⌜ Stowable (now words) (now sets) (now queues) (frameOf (now frame) alignment) × (length (now memory) ≡ 256 * length (now sets)) ⌝ }
     ensures { λ a. ⌜ Makes (doneWith 0 (stow (frameOf (now (frame .entry)) alignment) (view (now (words .entry)) (now (sets .entry)) (now (queues .entry)) (now (memory .entry))))) a (now (words .exit)) (now (sets .exit)) (now (queues .exit)) (now (memory .exit)) ⌝ }
 {
     let n = data_length(words[RCR], frame.len());

@@ -11,7 +11,8 @@ use lib.Dec.{eqb}
 use lib.ListN.{length, take, drop, getD, length-take, take-append-drop, drop-of-length-le}
 use lib.Seq.{take-suc}
 use Rattle.rules.specs.Answers.{Reply}
-use Rattle.rules.specs.Bench.{Event, eventOf, at, hexDigit}
+use Rattle.rules.specs.Parts.{partNamed}
+use Rattle.rules.specs.Bench.{Event, eventOf, at, asksFor, hexDigit}
 use Rattle.rules.specs.Watch.{isSend, hexBytes, putOut}
 use Rattle.lists.specs.Written.{Writes}
 
@@ -91,4 +92,20 @@ send-kind b = go (ℕ-discrete (at b 0) 7)
     go (no n) =
         let k = at b 0 in
         rw (ne-eqb k 7 n)
-        (neither (eqb k 1) _ _ refl (neither (eqb k 2) _ _ refl (neither (eqb k 3) _ _ refl (neither (eqb k 4) _ _ refl (neither (eqb k 5) _ _ refl (neither (eqb k 6) _ _ refl (neither (eqb k 8) _ _ refl refl)))))))
+        (neither (eqb k 1) _ _ refl (neither (eqb k 2) _ _ refl (neither (eqb k 3) _ _ refl (neither (eqb k 4) _ _ refl (neither (eqb k 5) _ _ refl (neither (eqb k 6) _ _ refl (neither (eqb k 8) _ _ refl (neither (eqb k 9) _ _ refl refl))))))))
+
+-- A record of kind 9 asks for the part that its byte 1 names, and any other for none.
+pub asks-part : (b : List ℕ) → at b 0 ≡ 9 → asksFor (eventOf b) ≡ partNamed (at b 1)
+unfolding asksFor eventOf
+asks-part b e = rw e
+
+pub asks-none : (b : List ℕ) → (at b 0 ≡ 9 → ⊥) → asksFor (eventOf b) ≡ 0
+unfolding asksFor eventOf
+asks-none b n =
+    let k = at b 0 in
+    rw (ne-eqb k 9 n)
+    (none (eqb k 1) _ _ refl (none (eqb k 2) _ _ refl (none (eqb k 3) _ _ refl (none (eqb k 4) _ _ refl (none (eqb k 5) _ _ refl (none (eqb k 6) _ _ refl (none (eqb k 7) _ _ refl (none (eqb k 8) _ _ refl refl))))))))
+  where
+    none : (t : Bool) (x y : Event) → asksFor x ≡ 0 → asksFor y ≡ 0 → asksFor (cond t x y) ≡ 0
+    none true x y p q = p
+    none false x y p q = q

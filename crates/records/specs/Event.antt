@@ -3,11 +3,11 @@ use mathlib.Core.List.{List}
 use Prim.Native.Nat.{ℕ}
 use lib.ListN.{drop}
 use Rattle.rules.specs.Bench as rules
-use Rattle.rules.specs.Bench.{access, wire, frameEnds, send, linkSet, unknown}
+use Rattle.rules.specs.Bench.{access, wire, frameEnds, send, linkSet, part, unknown}
 use Rattle.rules.specs.Registers.{read, write}
 use Rattle.state.specs.Meaning.{widthOf}
 use Rattle.records.specs.declared.event.Event.{Event}
-use Rattle.records.specs.declared.event.Event.the-variants.{Read, Write, Wire, Ends, Send, Link, Unknown}
+use Rattle.records.specs.declared.event.Event.the-variants.{Read, Write, Wire, Ends, Send, Link, Part, Unknown}
 
 abbrev pub meant : Event → List ℕ → rules.Event
 meant (Read w o) b = access (read (widthOf w) o)
@@ -16,4 +16,5 @@ meant (Wire c) b = wire c (drop 2 b)
 meant (Ends align) b = frameEnds align
 meant (Send o c d) b = send (record { outcome = o; collisions = c; deferral = d })
 meant (Link x) b = linkSet x
+meant (Part x) b = part x
 meant Unknown b = unknown

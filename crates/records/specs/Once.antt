@@ -5,17 +5,17 @@ use Prim.Native.Nat.{ℕ}
 use native.Mathlib.Omega.{arith}
 use lib.ListN.{length, take, drop, take-append-drop}
 use lib.Seq.{length-take-le}
-use Rattle.rules.specs.Chip.{powerUp}
+use Rattle.rules.specs.Chip.{paged, powered}
 use Rattle.rules.specs.Answers.{Reply}
 use Rattle.rules.specs.Registers.{read, write, byte, word}
 use Rattle.rules.specs.Registers as registers
 use Rattle.rules.specs.Bench as rules
-use Rattle.rules.specs.Bench.{access, wire, frameEnds, send, linkSet, unknown, eventOf}
+use Rattle.rules.specs.Bench.{access, wire, frameEnds, send, linkSet, part, unknown, eventOf}
 use Rattle.lists.specs.Written.{Writes}
 use Rattle.state.specs.declared.Width.{Width}
 use Rattle.state.specs.declared.Width.the-variants as width
 use Rattle.records.specs.declared.event.Event.{Event}
-use Rattle.records.specs.declared.event.Event.the-variants.{Read, Write, Wire, Ends, Send, Link, Unknown}
+use Rattle.records.specs.declared.event.Event.the-variants.{Read, Write, Wire, Ends, Send, Link, Part, Unknown}
 use Rattle.records.specs.declared.gather.Gathering.{Gathering}
 use Rattle.records.specs.declared.gather.Gathering.the-variants.{More, Refused}
 use Rattle.records.specs.Event.{meant}
@@ -33,6 +33,7 @@ eventBack (wire c l) = Wire c
 eventBack (frameEnds align) = Ends align
 eventBack (send s) = Send (s .outcome) (s .collisions) (s .deferral)
 eventBack (linkSet x) = Link x
+eventBack (part x) = Part x
 eventBack unknown = Unknown
 
 event-back : (e : Event) (bytes : List ℕ) → eventBack (meant e bytes) ≡ e
@@ -45,6 +46,7 @@ event-back (Wire c) bytes = refl
 event-back (Ends align) bytes = refl
 event-back (Send o c d) bytes = refl
 event-back (Link x) bytes = refl
+event-back (Part x) bytes = refl
 event-back Unknown bytes = refl
 
 pub event-once : (bytes : List ℕ) (x y : Event) → meant x bytes ≡ eventOf bytes → meant y bytes ≡ eventOf bytes → x ≡ y
@@ -58,8 +60,8 @@ gathering-known have (More n) Refused e f = absurd (omega (arith, ap (λ (r : Re
 gathering-known have Refused (More n) e f = absurd (omega (arith, ap (λ (r : Reply). r .number) e))
 
 module _ {before bytes after after′ : List ℕ} {have count : ℕ} {g h : Gathering} (long : length before ≡ 2048) (p : Gathers before have bytes count after g) (q : Gathers before have bytes count after′ h) where
-  told : {A : Type 0} (f : rules.Answered → A) → f (record { reply = replyTo g; after = holding powerUp (take (held have g) after) [] }) ≡ f (record { reply = replyTo h; after = holding powerUp (take (held have h) after′) [] })
-  told f = sym (ap f (p .rule powerUp [])) ∙ ap f (q .rule powerUp [])
+  told : {A : Type 0} (f : rules.Answered → A) → f (record { reply = replyTo g; after = holding (powered paged 24) (take (held have g) after) [] }) ≡ f (record { reply = replyTo h; after = holding (powered paged 24) (take (held have h) after′) [] })
+  told f = sym (ap f (p .rule (powered paged 24) [])) ∙ ap f (q .rule (powered paged 24) [])
 
   same-gathered : take (held have g) after ≡ take (held have h) after′
   same-gathered = told (λ a. a .after .gathered)

@@ -1,12 +1,14 @@
 // What a record asks for.
+use state::Named;
 use state::Width;
 ghost use mathlib.Core.Path.{_≡_};
 ghost use lib.ListN.{length};
-ghost use Rattle.rules.specs.Bench.{eventOf};
+ghost use Rattle.rules.specs.Bench.{eventOf, asksFor};
 ghost use Rattle.rules.specs.Watch.{isSend};
+ghost use Rattle.state.specs.Meaning.{packetsNamed};
 ghost use Rattle.records.specs.Event.{meant};
 
-// Width, offset and value of an access, the count of wire bytes, the flag alignment, a send's outcome, collisions and deferral, and the link's byte.
+// Width, offset and value of an access, the count of wire bytes, the flag alignment, a send's outcome, collisions and deferral, the link's byte, and the part's.
 pub enum Event {
     Read(Width, u8),
     Write(Width, u8, u16),
@@ -14,6 +16,7 @@ pub enum Event {
     Ends(bool),
     Send(u8, u8, u8),
     Link(u8),
+    Part(u8),
     Unknown,
 }
 
@@ -31,8 +34,20 @@ pub fn event_of(bytes: &[u8]) -> Event
         6 => Event::Ends(bits::byte_is_set(bytes[1], 1)),
         7 => Event::Send(bytes[1], bytes[2], bytes[3]),
         8 => Event::Link(bytes[1]),
+        9 => Event::Part(bytes[1]),
         _ => Event::Unknown,
     }
+}
+
+// The part that a record asks for, if it asks for one.
+pub fn part_asked(bytes: &[u8]) -> Named
+    requires { ⌜ length (now bytes) ≡ 8 ⌝ }
+    ensures { λ r. ⌜ packetsNamed r ≡ asksFor (eventOf (now (bytes .entry))) ⌝ }
+{
+    if bytes[0] != 9 {
+        return Named::Unknown;
+    }
+    state::part_named(bytes[1])
 }
 
 // Is it a send?

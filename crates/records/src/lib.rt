@@ -11,6 +11,7 @@ pub use count::next;
 pub use event::Event;
 pub use event::event_of;
 pub use event::is_send;
+pub use event::part_asked;
 pub use gather::Gathering;
 pub use gather::gathered;
 pub use line::line_at;

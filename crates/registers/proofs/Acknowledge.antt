@@ -114,5 +114,5 @@ module _ (p : Lanes) (v new m : ℕ) (w q : List ℕ) (k : Kept w) (h : QueuesIn
   writes-both e a l s mem h = record {
     chip = a .chip l s mem ∙ ap (acknowledge (lowByte v)) (sets-chip masked l s q mem) ∙ with-mask p v (new / 256) (word w 22) (viewOf l w s q mem) e refl (joined .high);
     reply = refl;
-    sound = record { kept = a .kept; queues = a .queues; sets = record { many = h .many; free = a .free ∙ masked-sets h .free; small = h .small } };
+    sound = record { kept = a .kept; queues = a .queues; sets = record { part = h .part; free = a .free ∙ masked-sets h .free; small = h .small } };
   }

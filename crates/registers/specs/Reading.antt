@@ -22,7 +22,7 @@ module _ {l : Layout} (p : Lanes) (w s q : List ℕ) (o : SoundOf l w s q) where
   pub reads-mir : (mem : List ℕ) → MakesOf l (readRegister MIR p (viewOf l w s q mem)) (Done (taken p (word w 4))) w s q mem
   unfolding readRegister
   reads-mir mem =
-      let size = numbers-length l s ∙ o .sets .many in
+      let size = numbers-length l s in
       reads MIR (word w 4) mem (ap (λ (x : ℕ). doneWith (taken p x) (viewOf l w s q mem)) (o .sets .free ∙ ap (λ (n : ℕ). wordOf n (length (freeFor l (listsOf l s)))) (sym size)))
 
   pub reads-heads : (r : ℕ) → r ≡ wordOf (headOf (queueIn 2 (word w 9) q)) (headOf (queueIn 0 (word w 6) q)) → (mem : List ℕ) → MakesOf l (readRegister HEADS p (viewOf l w s q mem)) (Done (taken p r)) w s q mem

@@ -77,7 +77,7 @@ pub fn write_rcr(
 ) -> Answer
     requires { ⌜ Sound (now words) (now sets) (now queues) ⌝ }
     ensures done { λ a. ⌜ ((mem : List ℕ) → Makes (rules.writeRegister rules.RCR (rules.lanesAt (widthOf width) offset) value (view (now (words .entry)) (now (sets .entry)) (now (queues .entry)) mem)) a (now (words .exit)) (now (sets .exit)) (now (queues .exit)) mem) ⌝ }
-    ensures long { λ a. ⌜ (length (now (words .exit)) ≡ 32) × (length (now (sets .exit)) ≡ 24) × (length (now (queues .exit)) ≡ 72) ⌝ }
+    ensures long { λ a. ⌜ (length (now (words .exit)) ≡ 32) × (length (now (sets .exit)) ≡ length (now (sets .entry))) × (length (now (queues .exit)) ≡ 72) ⌝ }
 {
     let rcr = new_rcr(width, offset, value, words[RCR]);
     if bits::is_set(rcr, flags::SOFT_RST) {

@@ -1,18 +1,19 @@
 -- Short laws beside the definitions, for the wrong models of must-fail/: four of document 01's plausible slips, those of document 02's W4 and W8, and others. (The other two slips, adjacent pages and bytes after a frame, are
 -- edits of `packet`. An edit reaches its own crate only, so these laws stand here and not in `laws`.)
-use mathlib.Core.Path.{_≡_, refl}
+use mathlib.Core.Path.{_≡_, refl, _∙_}
 use mathlib.Core.Bool.{Bool, true, false, cond, xor, _||_}
 use mathlib.Core.List.{List, [], _∷_, _++_}
 use Prim.Native.Nat.{ℕ, zero, suc, _*_, _≤_, _<_}
 use native.Mathlib.Omega.{arith}
-use borrow.Author.Tests.{le-leb, lt-ltb, le-ltb}
-use lib.ListN.{length, getD, take}
+use borrow.Author.Tests.{le-leb, lt-ltb, le-ltb, ne-eqb}
+use lib.ListN.{length, getD, take, replicate, length-replicate}
 use lib.Seq.{getD-set-same, getD-set-other}
 use Rattle.rules.specs.Bits.{bit, lowByte, highByte, wordOf, wordAt}
-use Rattle.rules.specs.Lists.{firstEmpty, some?}
-use Rattle.rules.specs.Chip.{Registers, Chip, size, pagesAt, free}
-use Rattle.rules.specs.Fields.{setRx, inPool}
-use Rattle.rules.specs.Answers.{Effect, refuse}
+use Rattle.rules.specs.Lists.{member, firstEmpty, some?, owned, unless, freeBelow}
+use Rattle.rules.specs.Parts.{lan91c94, lan91c96, partNamed}
+use Rattle.rules.specs.Chip.{Registers, Layout, paged, strips, Chip, size, pagesAt, free, powered}
+use Rattle.rules.specs.Fields.{setRx, setCompletion, inPool}
+use Rattle.rules.specs.Answers.{Effect, refuse, refusal}
 use Rattle.rules.specs.Mmu.{perform, allocate, reset, removeAndRelease, resetTx, lowestNumber, grant, due, settle, freed, giveBack}
 use Rattle.rules.specs.Link.{relink, shownEphsr}
 use Rattle.rules.specs.Data.{against, ifOpen}
@@ -20,8 +21,9 @@ use Rattle.rules.specs.Crc.{crcBit, crcBits, crcFrom, crc, hash, mirror,
 use Rattle.rules.specs.Tests.{ascends, allBelow, apart, noneOwned, pagesGood, laidGood, queueGood, queuesGood, numbersGood, requestGood, formed, fit}
 use Rattle.rules.specs.Registers.{byte, word, Lanes, low, high, both, CONTROL, INTERRUPT, read, write, misplaced, registerAt, lanesAt, taken, headOf, lowOnly, softReset, writeInterrupt, readRegister, writeRegister, access}
 use Rattle.rules.specs.Receive.{Frame, sameBytes, badCrc, Arrival, stored, disabled, notAccepted, tooLong, bad, noRoom, countOf, needed, image, after}
-use Rattle.rules.specs.Send.{Send, byteCount, appends, padded, ended, onWire, good, autoRelease, tally, counted, nibble, statusWord, sentRegisters, sendHead, ifUsable, ifSendable}
-use Rattle.rules.specs.Step.{driver, serve, stepOf, runOf, history}
+use Rattle.rules.specs.Send.{Send, byteCount, appends, padded, ended, onWire, good, autoRelease, tally, counted, nibble, statusWord, sentRegisters, noPlace, sendHead, ifUsable, ifSendable}
+use Rattle.rules.specs.Step.{driver, serve, stepOf, runOf}
+use Rattle.rules.specs.Bench.{Bench, part, answer, asksFor, startedAs, answerFirst, answerTo}
 
 -- Where nothing waits, pages that are given back are free, and that is all.
 none-waiting : (k : ℕ) (c : Chip) → c .regs .numbers .waiting ≡ 0 → giveBack k c ≡ freed k c
@@ -180,7 +182,7 @@ unfolding tally counted
 failed-single s ecr a b = rw (a, b)
 
 -- The first value is not 0, and each answer is that of the chip after the inputs before it: the bank is read, then bank 2 is selected and its queue heads are read.
-pub answers-go-on : history (driver (read word 14) ∷ driver (write byte 14 2) ∷ driver (read word 4) ∷ []) .replies
+pub answers-go-on : runOf lan91c96 (driver (read word 14) ∷ driver (write byte 14 2) ∷ driver (read word 4) ∷ []) (powered paged lan91c96) .replies
     ≡ record { number = 0; value = 0x3300 } ∷ record { number = 0; value = 0 } ∷ record { number = 0; value = 0x8080 } ∷ []
 unfolding runOf stepOf fit formed pagesGood laidGood ascends allBelow noneOwned numbersGood queuesGood queueGood requestGood apart serve access misplaced bit registerAt lanesAt readRegister writeRegister taken lowOnly wordOf headOf
 answers-go-on = refl
@@ -206,3 +208,45 @@ module _ (s : Send) (k : ℕ) (rest : List ℕ) (c : Chip) (out : List ℕ) wher
   pub past-is-19 : bit 0 count ≡ false → 12 ≤ count → 256 * length (pagesAt c k) < count → ifSendable s k rest c out .reply ≡ record { number = 19; value = count }
   unfolding ifSendable ifUsable
   past-is-19 e l m = rw (e, le-ltb count 12 l, lt-ltb (256 * length (pagesAt c k)) count m) refl
+
+-- Document 02, W9. "MIR 1212h after reset", and by the same rule document 01's 1818h.
+pub mir-by-the-part : (runOf lan91c94 (driver (read word 8) ∷ []) (powered paged lan91c94) .replies ≡ record { number = 0; value = 0x1212 } ∷ [])
+    × (runOf lan91c96 (driver (read word 8) ∷ []) (powered paged lan91c96) .replies ≡ record { number = 0; value = 0x1818 } ∷ [])
+unfolding runOf stepOf fit formed pagesGood laidGood ascends allBelow noneOwned numbersGood queuesGood queueGood requestGood apart serve access misplaced bit registerAt lanesAt readRegister writeRegister taken lowOnly wordOf headOf freeBelow unless owned member
+mir-by-the-part = (refl, refl)
+
+-- A part of n packets has n of them and no more: so none from n on is allocated.
+pub packets-of-the-part : (l : Layout) (n : ℕ) → (size (powered l n) ≡ n) × (size (perform reset (powered l n) .chip) ≡ n) × (size (softReset (powered l n)) ≡ n)
+unfolding perform
+packets-of-the-part l n =
+    let e = length-replicate {A = List ℕ} n [] in
+    (e, length-replicate {A = List ℕ} (size (powered l n)) [] ∙ e, length-replicate {A = List ℕ} (size (powered l n)) [] ∙ e)
+
+-- "the completion FIFO holds 18": where a failed send's number would be the 19th entry there is no place for it, and as the 18th there is.
+abbrev completions : ℕ → Chip
+completions k = inPool (setCompletion (replicate k 0)) (powered paged lan91c94)
+
+abbrev collided : Send
+collided = record { outcome = 1; collisions = 0; deferral = 0 }
+
+pub full-at-18 : (noPlace collided (completions 18) ≡ true) × (noPlace collided (completions 17) ≡ false)
+unfolding good autoRelease bit
+full-at-18 = (refl, refl)
+
+-- A record of kind 9 starts the part that it names where it is the first; "kind 9 later on, or with another byte, gets 11".
+module _ (b : Bench) where
+  pub part-first : (answerTo 1 (part 0x94) b .after ≡ startedAs 18 b) × (answerTo 1 (part 0x96) b .after ≡ startedAs 24 b)
+  unfolding answerTo answerFirst asksFor partNamed
+  part-first = (refl, refl)
+
+  pub part-second : answerTo 2 (part 0x94) b ≡ record { reply = refusal 11; after = b }
+  unfolding answerTo answer
+  part-second = refl
+
+  pub part-later : (k x : ℕ) → 1 < k → answerTo k (part x) b ≡ record { reply = refusal 11; after = b }
+  unfolding answerTo answer
+  part-later k x h = rw (ne-eqb k 1 (λ e. omega (arith, h, e)))
+
+  pub part-unnamed : (x : ℕ) → partNamed x ≡ 0 → answerTo 1 (part x) b ≡ record { reply = refusal 11; after = b }
+  unfolding answerTo answerFirst asksFor answer
+  part-unnamed x e = rw e

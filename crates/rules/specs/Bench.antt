@@ -1,11 +1,12 @@
--- Document 01, "Bench program and its records".
+-- Document 01, "Bench program and its records"; document 02, W9: a first record may ask for the part.
 use mathlib.Core.Bool.{Bool, cond, not, _&&_}
 use mathlib.Core.List.{List, [], _∷_, _++_}
 use Prim.Native.Nat.{ℕ, zero, suc, _+_, _/_, _%_}
 use lib.Dec.{eqb, leb, ltb}
 use lib.ListN.{length, getD, take, drop, replicate}
 use Rattle.rules.specs.Bits.{bit, wordOf}
-use Rattle.rules.specs.Chip.{Chip, powerUp, stripsUp}
+use Rattle.rules.specs.Parts.{lan91c96, partNamed}
+use Rattle.rules.specs.Chip.{paged, strips, Chip, powered}
 use Rattle.rules.specs.Answers.{Reply, Turn, done, refusal}
 use Rattle.rules.specs.Registers.{Access, read, write, byte, word}
 use Rattle.rules.specs.Send.{Send}
@@ -21,6 +22,8 @@ pub data Event : Type 0 where
   send : Send → Event
   -- byte 1
   linkSet : ℕ → Event
+  -- byte 1
+  part : ℕ → Event
   unknown : Event
 
 -- the record's byte k
@@ -30,7 +33,7 @@ at bytes k = getD bytes k 0
 abbrev pub valueIn : List ℕ → ℕ
 valueIn bytes = wordOf (at bytes 2) (at bytes 3)
 
--- "Byte 0: 1 read byte, 2 read word, 3 write byte, 4 write word (offset, value low, high); 5 wire bytes", "6 frame ends (byte 1: .. 1 alignment)", "bit 0 .. ignored" (W4), "7 send (outcome, collisions, deferral)"; "Record kind 8: byte 1 is 0 or 1" (W8); "Unused bytes are ignored."
+-- "Byte 0: 1 read byte, 2 read word, 3 write byte, 4 write word (offset, value low, high); 5 wire bytes", "6 frame ends (byte 1: .. 1 alignment)", "bit 0 .. ignored" (W4), "7 send (outcome, collisions, deferral)"; "Record kind 8: byte 1 is 0 or 1" (W8); "kind 9, byte 1 being 94h or 96h" (W9); "Unused bytes are ignored."
 unfoldable pub eventOf : List ℕ → Event
 eventOf b =
     cond (eqb (at b 0) 1) (access (read byte (at b 1)))
@@ -40,7 +43,8 @@ eventOf b =
     (cond (eqb (at b 0) 5) (wire (at b 1) (drop 2 b))
     (cond (eqb (at b 0) 6) (frameEnds (bit 1 (at b 1)))
     (cond (eqb (at b 0) 7) (send (record { outcome = at b 1; collisions = at b 2; deferral = at b 3 }))
-    (cond (eqb (at b 0) 8) (linkSet (at b 1)) unknown)))))))
+    (cond (eqb (at b 0) 8) (linkSet (at b 1))
+    (cond (eqb (at b 0) 9) (part (at b 1)) unknown))))))))
 
 -- the chip, the wire bytes gathered so far, and the output buffer
 pub record Bench : Type 0 where
@@ -52,8 +56,9 @@ pub record Bench : Type 0 where
 abbrev pub startedOn : Chip → Bench
 startedOn c = record { chip = c; gathered = []; output = replicate 2052 0 }
 
+-- "without it, the LAN91C96" (W9)
 abbrev pub started : Bench
-started = startedOn powerUp
+started = startedOn (powered paged lan91c96)
 
 pub record Answered : Type 0 where
   pub reply : Reply
@@ -78,8 +83,32 @@ answer (frameEnds align) b = told (step (frame (record { bytes = b .gathered; al
 answer (send s) b = let t = step (sent s (b .output)) (b .chip) in told t (b .gathered) (t .output)
 -- what is gathered stays
 answer (linkSet x) b = told (step (link x) (b .chip)) (b .gathered) (b .output)
+-- "kind 9 later on, or with another byte, gets 11" (W9); `answerTo` has the first record
+answer (part x) b = record { reply = refusal 11; after = b }
 -- "record cut short or of unknown kind": "A 17 prints its line and the run goes on."
 answer unknown b = record { reply = refusal 17; after = b }
+
+-- how many packets the part has that a record asks for, 0 where it asks for none
+unfoldable pub asksFor : Event → ℕ
+asksFor (access a) = 0
+asksFor (wire count bytes) = 0
+asksFor (frameEnds align) = 0
+asksFor (send s) = 0
+asksFor (linkSet x) = 0
+asksFor (part x) = partNamed x
+asksFor unknown = 0
+
+-- the bench starts as the part with n packets, of the same layout
+abbrev pub startedAs : ℕ → Bench → Bench
+startedAs n b = record { chip = powered (b .chip .pool .layout) n; gathered = []; output = b .output }
+
+-- "The bench asks for the part by a first record of kind 9": it is done, and that part starts
+unfoldable pub answerFirst : Event → Bench → Answered
+answerFirst e b = cond (ltb 0 (asksFor e)) (record { reply = done; after = startedAs (asksFor e) b }) (answer e b)
+
+-- by the record's number, from 1
+unfoldable pub answerTo : ℕ → Event → Bench → Answered
+answerTo number e b = cond (eqb number 1) (answerFirst e b) (answer e b)
 
 -- the n lowest decimal digits of a number, as characters; a number x has at most x + 1
 unfoldable pub decimalIn : ℕ → ℕ → List ℕ
@@ -118,7 +147,7 @@ printed form zero k input b = []
 printed form (suc n) k [] b = []
 printed form (suc n) k (x ∷ xs) b =
     let e = eventOf (take 8 (x ∷ xs)) in
-    cond (ltb (length (x ∷ xs)) 8) (form k unknown (answer unknown b)) (form k e (answer e b) ++ printed form n (k + 1) (drop 8 (x ∷ xs)) (answer e b .after))
+    cond (ltb (length (x ∷ xs)) 8) (form k unknown (answer unknown b)) (form k e (answerTo k e b) ++ printed form n (k + 1) (drop 8 (x ∷ xs)) (answerTo k e b .after))
 
 -- what the program prints for its standard input
 abbrev pub bench : List ℕ → List ℕ
@@ -126,4 +155,4 @@ bench input = printed plain (length input) 1 input started
 
 -- and what "strip_bench" prints: the same on the chip of strips (document 02, W3)
 abbrev pub stripBench : List ℕ → List ℕ
-stripBench input = printed plain (length input) 1 input (startedOn stripsUp)
+stripBench input = printed plain (length input) 1 input (startedOn (powered strips lan91c96))

@@ -77,12 +77,12 @@ pub record Chip : Type 0 where
   -- the bytes of all pages
   pub memory : List ℕ
 
--- pages are numbered below it on a chip of n packets: 24 pages, or 24 strips
+-- pages are numbered below it on a chip of n packets: n pages, or n strips
 abbrev pub pageNumbers : Layout → ℕ → ℕ
 pageNumbers paged n = n
 pageNumbers strips n = 8 * n
 
--- how many packets the chip has, and how many pages in all they may have: 24
+-- how many packets the chip has, and how many pages in all they may have: 24, or 18 (W9). No step changes it.
 abbrev pub size : Chip → ℕ
 size c = length (c .pool .pages)
 
@@ -94,7 +94,7 @@ pagesAt c k = getD (c .pool .pages) k []
 abbrev pub freeFor : Layout → List (List ℕ) → List ℕ
 -- those that no packet has, in ascending order
 freeFor paged ls = freeBelow (length ls) ls
--- "of pages only how many are free and how many each packet has, 24 in sum": so many, from the first of the strip on whose number comes next (a packet takes at most eight)
+-- "of pages only how many are free and how many each packet has, 24 in sum" (on the other part 18): so many, from the first of the strip on whose number comes next (a packet takes at most eight)
 freeFor strips ls = upFrom (8 * firstEmpty ls) (length ls - total ls)
 
 abbrev pub free : Chip → List ℕ
@@ -121,13 +121,6 @@ resetRegisters station up = record {
 abbrev pub emptyPool : Layout → ℕ → Pool
 emptyPool l n = record { layout = l; pages = replicate n []; rx = []; tx = []; completion = [] }
 
--- power-up of a part with n packets: "the memory is 6,144 zero bytes", or 49,152; "the link is down with no change seen" (W8)
+-- power-up of the part with n packets: "the memory is 6,144 zero bytes", or 256 for each of n pages, and eight times as many of strips; "the link is down with no change seen" (W8)
 abbrev pub powered : Layout → ℕ → Chip
 powered l n = record { regs = resetRegisters (replicate 6 0) false; pool = emptyPool l n; memory = replicate (256 * pageNumbers l n) 0 }
-
--- the chip of document 01, and the one of strips
-abbrev pub powerUp : Chip
-powerUp = powered paged 24
-
-abbrev pub stripsUp : Chip
-stripsUp = powered strips 24

@@ -3,6 +3,8 @@
 -- Words that all parts use.
 pub mod Bits
 pub mod Lists
+-- The two parts (document 02, W9).
+pub mod Parts
 -- "What the model holds"
 pub mod Chip
 pub mod Fields

@@ -155,7 +155,7 @@ readRegister TCR p c = doneWith (taken p (c .regs .sending .tcr)) c
 readRegister EPHSR p c = doneWith (taken p (shownEphsr (c .regs))) c
 readRegister RCR p c = doneWith (taken p (c .regs .receiving .rcr)) c
 readRegister ECR p c = doneWith (taken p (c .regs .sending .ecr)) (inRegisters clearEcr c)
--- "low byte 18h, high byte free pages": 18h is 24, the number of pages
+-- "low byte 18h, high byte free pages": 18h is 24, the number of pages; on the other part 12h, "MIR 1212h after reset" (W9)
 readRegister MIR p c = doneWith (taken p (wordOf (size c) (length (free c)))) c
 readRegister RESERVED p c = doneWith (taken p (wordOf (c .regs .receiving .reserved) 0x33)) c
 readRegister (STATION k) p c = doneWith (taken p (wordAt (2 * k) (c .regs .receiving .station))) c

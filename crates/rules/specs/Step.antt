@@ -1,8 +1,9 @@
--- One type of inputs, one step, and the history of a chip from power-up.
+-- One type of inputs, one step, and inputs one after another.
 use mathlib.Core.Bool.{cond, not}
 use mathlib.Core.List.{List, [], _∷_}
 use Prim.Native.Nat.{ℕ}
-use Rattle.rules.specs.Chip.{Chip, powerUp}
+use Rattle.rules.specs.Parts.{partOf}
+use Rattle.rules.specs.Chip.{Chip, size}
 use Rattle.rules.specs.Answers.{Reply, Turn, refused, leaving}
 use Rattle.rules.specs.Tests.{fit}
 use Rattle.rules.specs.Registers.{Access, access}
@@ -32,12 +33,13 @@ serve (frame f) c = leaving [] (arrive f c)
 serve (sent s out) c = finish s c out
 serve (link x) c = leaving [] (plug x c)
 
--- on any chip: refusal 16 is first, whatever the input; n is the part's number of packets
+-- on any chip, of the part with n packets: refusal 16 is first, whatever the input
 unfoldable pub stepOf : ℕ → Input → Chip → Turn
 stepOf n i c = cond (not (fit n c)) (refused 16 c (lent i)) (serve i c)
 
+-- of either part, the one whose number of packets the chip has: "16 goes by the part's size" (W9)
 abbrev pub step : Input → Chip → Turn
-step = stepOf 24
+step i c = stepOf (partOf (size c)) i c
 
 -- inputs one after another: their replies, the output buffer of each after it, and the last chip
 pub record Ran : Type 0 where
@@ -51,10 +53,3 @@ behind t x = record { replies = t .reply ∷ x .replies; outputs = t .output ∷
 unfoldable pub runOf : ℕ → List Input → Chip → Ran
 runOf n [] c = record { replies = []; outputs = []; chip = c }
 runOf n (i ∷ is) c = let t = stepOf n i c in behind t (runOf n is (t .chip))
-
-abbrev pub run : List Input → Chip → Ran
-run = runOf 24
-
--- a history: from power-up
-abbrev pub history : List Input → Ran
-history inputs = run inputs powerUp

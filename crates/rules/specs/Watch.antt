@@ -7,7 +7,7 @@ use lib.ListN.{length, take}
 use Rattle.rules.specs.Bits.{flag}
 use Rattle.rules.specs.Answers.{Reply}
 use Rattle.rules.specs.Interrupts.{lineUp}
-use Rattle.rules.specs.Bench.{Event, access, wire, frameEnds, send, linkSet, unknown, Form, columns, hexDigit, printed, started}
+use Rattle.rules.specs.Bench.{Event, access, wire, frameEnds, send, linkSet, part, unknown, Form, columns, hexDigit, printed, started}
 
 -- is it a send
 unfoldable pub isSend : Event → Bool
@@ -16,6 +16,7 @@ isSend (wire count bytes) = false
 isSend (frameEnds align) = false
 isSend (send s) = true
 isSend (linkSet x) = false
+isSend (part x) = false
 isSend unknown = false
 
 -- bytes as lower-case hex digits, two for each

@@ -1,4 +1,4 @@
--- Document 01: "A chip state is well formed exactly when ..", a field for each clause; and document 02, W1 and W3. Stated for n packets; the chip of document 01 has 24, and as many pages.
+-- Document 01: "A chip state is well formed exactly when ..", a field for each clause; and document 02, W1 and W3. Stated for the part with n packets, and as many pages: document 01's has 24, the other 18 (W9).
 use mathlib.Core.Bool.{true, false}
 use mathlib.Core.Path.{_≡_}
 use mathlib.Core.Logic.{_⊎_}
@@ -88,12 +88,9 @@ pub record Clauses (n : ℕ) (r : Numbers) (q : Pool) : Type 0 where
   -- "A state with a waiting request is well formed only if .."
   pub request : GoodRequest (length (freeFor (q .layout) (q .pages))) r
 
--- the clauses of registers and pool; of a chip with n packets; of one with 24
+-- the clauses of registers and pool; of a chip with n packets
 abbrev pub Formed : ℕ → Registers → Pool → Type 0
 Formed n r q = Clauses n (r .numbers) q
 
 abbrev pub FormedAt : ℕ → Chip → Type 0
 FormedAt n c = Formed n (c .regs) (c .pool)
-
-abbrev pub WellFormed : Chip → Type 0
-WellFormed c = FormedAt 24 c

@@ -15,5 +15,5 @@ module _ {w s q : List ℕ} (r : Ready w s q) (h : 0 < word w 8) (set : ℕ) (p 
   pub pages-few : (1 ≤ length (pagesOf set)) × (length (pagesOf set) ≤ 8)
   pages-few = let f = head-few r h in (omega (arith, ap length p, f .0), omega (arith, ap length p, f .1))
 
-  pub room : (mem : List ℕ) → length mem ≡ 6144 → (end : ℕ) → end ≤ 256 * length (pagesOf set) → Room end set mem
-  room mem e end b = room-of end set (getD (map pagesOf s) (head r h) []) mem p e (r .well .pages .within (head r h)) (omega (arith, b, ap length p))
+  pub room : (mem : List ℕ) → length mem ≡ 256 * length s → (end : ℕ) → end ≤ 256 * length (pagesOf set) → Room end set mem
+  room mem e end b = room-of (length s) end set (getD (map pagesOf s) (head r h) []) mem p e (r .well .pages .within (head r h)) (omega (arith, b, ap length p))

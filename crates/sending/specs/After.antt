@@ -72,7 +72,7 @@ module _ {l : Layout} {w s q : List ℕ} (r : ReadyOf l w s q) (h : 0 < word w 8
   head-allocated : some? (getD (listsOf l s) head []) ≡ true
   head-allocated = r .well .queues .txAllocated head (member-at (queueIn 1 (word w 8) q) 0 (omega (arith, h, r .sound .queues .tx .many)))
 
-  pub head-small : head < 24
+  pub head-small : head < length s
   head-small = omega (arith, has-small (listsOf l s) head head-allocated, r .well .count)
 
   pub head-few : (1 ≤ length (getD (listsOf l s) head [])) × (length (getD (listsOf l s) head []) ≤ 8)

@@ -22,7 +22,7 @@ use state::TX_COUNT;
 use state::flags;
 ghost use mathlib.Core.Path.{_≡_};
 ghost use mathlib.Core.Bool.{false};
-ghost use Prim.Native.Nat.{_≤_, _<_};
+ghost use Prim.Native.Nat.{_*_, _≤_, _<_};
 ghost use lib.ListN.{length};
 ghost use Rattle.rules.specs.Send as rules;
 ghost use Rattle.sets.specs.Views.{pagesOf};
@@ -62,7 +62,7 @@ fn send_head(
     out: &mut [u8],
     s: Send,
 ) -> Answer
-    requires { ⌜ Ready (now words) (now sets) (now queues) × (length (now memory) ≡ 6144) × (2052 ≤ length (now out)) × (0 < word (now words) 8) × (s .outcome ≤ 5) ⌝ }
+    requires { ⌜ Ready (now words) (now sets) (now queues) × (length (now memory) ≡ 256 * length (now sets)) × (2052 ≤ length (now out)) × (0 < word (now words) 8) × (s .outcome ≤ 5) ⌝ }
     ensures { λ a. ⌜ Sends (headSent (sendOf s) (view (now (words .entry)) (now (sets .entry)) (now (queues .entry)) (now (memory .entry))) (now (out .entry))) a (now (words .exit)) (now (sets .exit)) (now (queues .exit)) (now (memory .exit)) (now (out .exit)) ⌝ }
 {
     let pages = sets::set_of(sets, pool::tx_head(queues));
@@ -78,7 +78,7 @@ fn send_head(
     }
     let good = is_good(words[TCR], s.outcome);
     let released = is_released(good, words[CONTROL]);
-    if is_full(released, words[COMPLETION_COUNT]) {
+    if is_full(released, words[COMPLETION_COUNT], sets.len()) {
         return Answer::CompletionFull;
     }
     let value = put_out(memory, pages, words[TCR], count, out);
@@ -97,7 +97,7 @@ pub fn finished(
     collisions: u8,
     deferral: u8,
 ) -> Answer
-    requires { ⌜ Ready (now words) (now sets) (now queues) × (length (now memory) ≡ 6144) ⌝ }
+    requires { ⌜ Ready (now words) (now sets) (now queues) × (length (now memory) ≡ 256 * length (now sets)) ⌝ }
     ensures { λ a. ⌜ Sends (rules.finish (record { outcome = outcome; collisions = collisions; deferral = deferral }) (view (now (words .entry)) (now (sets .entry)) (now (queues .entry)) (now (memory .entry))) (now (out .entry))) a (now (words .exit)) (now (sets .exit)) (now (queues .exit)) (now (memory .exit)) (now (out .exit)) ⌝ }
 {
     if out.len() < OUTPUT_BYTES {

@@ -2,9 +2,13 @@
 use records::Counter;
 use state::Answer;
 ghost use mathlib.Core.Path.{_≡_};
+ghost use mathlib.Core.Bool.{false};
 ghost use mathlib.Core.List.{List};
 ghost use Prim.Native.Nat.{ℕ, _+_, _/_, _≤_};
 ghost use lib.ListN.{length, take};
+ghost use Rattle.rules.specs.Bench.{Event};
+ghost use Rattle.rules.specs.Watch.{isSend};
+ghost use Rattle.state.specs.Meaning.{replyOf};
 ghost use Rattle.state.specs.View.{view, figures, Kept};
 ghost use Rattle.state.specs.Promise.{QueuesIn};
 ghost use Rattle.records.specs.Counting.{Counts};
@@ -34,6 +38,24 @@ pub fn print(
     records::watched_at(lines, at, counter, shown, up, sent, out)
 }
 
+// The line of a record that is no send, by itself at the front of the buffer; returns the place behind it.
+pub fn lone_line(
+    watching: bool,
+    words: &[u16],
+    out: &[u8],
+    lines: &mut [u8],
+    number: u64,
+    answer: Answer,
+) -> usize
+    requires { ⌜ Kept (now words) × ((q : List ℕ) × QueuesIn (figures (now words)) q) × (length (now out) ≡ 2052) × (roomFor watching 1 ≤ length (now lines)) ⌝ }
+    ensures text { λ end. ⌜ ((e : Event) (s q mem wire : List ℕ) → isSend e ≡ false → QueuesIn (figures (now (words .entry))) q → take end (now (lines .exit)) ≡ formOf watching number e (record { reply = replyOf answer; after = holding (view (now (words .entry)) s q mem) wire (now (out .entry)) })) ⌝ }
+    ensures fits { λ end. ⌜ end ≤ length (now (lines .entry)) ⌝ }
+{
+    let counter = records::counter_of(number);
+    let up = registers::line_up(words);
+    print(watching, lines, 0, counter, answer, false, up, out)
+}
+
 // The line of a record that the input's end cuts short after `kept` bytes, if there are any; returns the place behind it.
 pub fn last_line(
     watching: bool,
@@ -50,18 +72,7 @@ pub fn last_line(
     if kept == 0 {
         return 0;
     }
-    let counter = records::counter_of(number);
-    let up = registers::line_up(words);
-    print(
-        watching,
-        lines,
-        0,
-        counter,
-        Answer::CutShort,
-        false,
-        up,
-        out,
-    )
+    lone_line(watching, words, out, lines, number, Answer::CutShort)
 }
 
 // Each complete record of the input; the lines stand before `end`.

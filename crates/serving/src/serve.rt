@@ -1,15 +1,20 @@
 // From standard input to standard output: what is there is read, its complete records are answered, and their lines are written, until the input ends.
 use crate::batch::answer_all;
 use crate::batch::last_line;
+use crate::batch::lone_line;
+use state::Answer;
+use state::Named;
+use state::Part;
 use streams::Reading;
 ghost use mathlib.Core.Path.{_≡_};
 ghost use mathlib.Core.List.{List};
-ghost use Prim.Native.Nat.{ℕ, _+_, _-_, _/_, _%_, _≤_, _<_};
+ghost use Prim.Native.Nat.{ℕ, _+_, _-_, _*_, _/_, _%_, _≤_, _<_};
 ghost use lib.ListN.{length, take, drop};
 ghost use Rattle.state.specs.View.{figures, Kept};
 ghost use Rattle.state.specs.Promise.{QueuesIn};
+ghost use Rattle.state.specs.Entry.{sizeIn, Whole};
 ghost use Rattle.turns.specs.Turns.{Held};
-ghost use Rattle.serving.specs.Batch.{roomFor};
+ghost use Rattle.serving.specs.Batch.{roomFor, FillsMore};
 
 // The bytes behind the last complete record go to the front; returns how many they are.
 fn keep_tail(input: &mut [u8], filled: usize) -> usize
@@ -74,7 +79,18 @@ fn finish(
     write_lines(program, lines, end, number);
 }
 
-// Every record is answered before more is waited for. The loop ends at record 2^63, which no run comes to.
+// What there is to answer: record 1 where it is kept whole, which was read before; else what is read behind the bytes that are kept.
+fn more(input: &mut [u8], kept: usize) -> Reading
+    requires { ⌜ (kept ≤ 8) × (8 ≤ length (now input)) ⌝ }
+    ensures { λ r. ⌜ FillsMore kept (length (now (input .entry))) r ⌝ }
+{
+    if kept == 8 {
+        return Reading::Filled(8);
+    }
+    streams::read_more(input, kept)
+}
+
+// Every record is answered before more is waited for, from record `first` on; of record 1, `left` bytes are in the input. The loop ends at record 2^63, which no run comes to.
 fn serve_from(
     program: &[u8],
     watching: bool,
@@ -86,16 +102,18 @@ fn serve_from(
     out: &mut [u8],
     input: &mut [u8],
     lines: &mut [u8],
+    left: usize,
+    first: u64,
 )
     requires { ⌜ Held (now words) (now sets) (now queues) (now memory) (now wire) 0 × (length (now out) ≡ 2052) ⌝ }
-    requires { ⌜ (8 ≤ length (now input)) × (length (now input) ≤ 8192) × (roomFor watching (length (now input) / 8) ≤ length (now lines)) × (length (now lines) ≤ 0x100000) ⌝ }
+    requires { ⌜ (8 ≤ length (now input)) × (length (now input) ≤ 8192) × (roomFor watching (length (now input) / 8) ≤ length (now lines)) × (length (now lines) ≤ 0x100000) × (left ≤ 8) × (1 ≤ first) ⌝ }
 {
     let mut have = 0;
     let mut end = 0;
-    let mut number: u64 = 1;
-    let mut kept = 0;
+    let mut number = first;
+    let mut kept = left;
     while number < 0x8000000000000000 {
-        let reading = streams::read_more(input, kept);
+        let reading = more(input, kept);
         let Reading::Filled(filled) = reading else {
             finish(program, watching, words, out, lines, kept, number, reading);
             return;
@@ -122,11 +140,94 @@ fn serve_from(
     }
 }
 
-// From power-up on, with these buffers for records and lines.
-fn start(program: &[u8], watching: bool, input: &mut [u8], lines: &mut [u8])
+// Where record 1 asked for the part, it is done, and its line is written; returns whether that went well.
+fn write_asked(
+    program: &[u8],
+    watching: bool,
+    asked: bool,
+    words: &[u16],
+    out: &[u8],
+    lines: &mut [u8],
+) -> bool
+    requires { ⌜ Kept (now words) × ((q : List ℕ) × QueuesIn (figures (now words)) q) × (length (now out) ≡ 2052) ⌝ }
+    requires { ⌜ (roomFor watching 1 ≤ length (now lines)) × (length (now lines) ≤ 0x100000) ⌝ }
+{
+    if !asked {
+        return true;
+    }
+    let end = lone_line(watching, words, out, lines, 1, Answer::Done(0));
+    write_lines(program, lines, end, 1)
+}
+
+// How many bytes of record 1 are still to be answered: all eight, where it did not ask for the part.
+fn left_of_first(asked: bool) -> usize
+    ensures { λ n. ⌜ n ≤ 8 ⌝ }
+{
+    if asked {
+        return 0;
+    }
+    8
+}
+
+// The number of the record that is answered next.
+fn next_number(asked: bool) -> u64
+    ensures { λ n. ⌜ 1 ≤ n ⌝ }
+{
+    if asked {
+        return 2;
+    }
+    1
+}
+
+// The places of the part's packets are lent, of 24, and the bytes of its pages, of 6,144.
+fn lend(
+    program: &[u8],
+    watching: bool,
+    asked: bool,
+    words: &mut [u16],
+    sets: &mut [u32],
+    queues: &mut [u8],
+    memory: &mut [u8],
+    wire: &mut [u8],
+    out: &mut [u8],
+    input: &mut [u8],
+    lines: &mut [u8],
+)
+    requires { ⌜ Whole (now words) (now sets) (now queues) (take (256 * sizeIn (now words)) (now memory)) × (length (now wire) ≡ 2048) × (length (now out) ≡ 2052) ⌝ }
     requires { ⌜ (8 ≤ length (now input)) × (length (now input) ≤ 8192) × (roomFor watching (length (now input) / 8) ≤ length (now lines)) × (length (now lines) ≤ 0x100000) ⌝ }
 {
-    let start = chip::power_up();
+    let n = state::size_in(words);
+    let bytes = 256 * n;
+    let left = left_of_first(asked);
+    let first = next_number(asked);
+    serve_from(
+        program,
+        watching,
+        words,
+        &mut sets[..n],
+        queues,
+        &mut memory[..bytes],
+        wire,
+        out,
+        input,
+        lines,
+        left,
+        first,
+    );
+}
+
+// From power-up of the part on, where record 1 is in the input: `asked` tells whether it asked for it.
+fn serve_part(
+    program: &[u8],
+    watching: bool,
+    part: Part,
+    asked: bool,
+    input: &mut [u8],
+    lines: &mut [u8],
+)
+    requires { ⌜ (8 ≤ length (now input)) × (length (now input) ≤ 8192) × (roomFor watching (length (now input) / 8) ≤ length (now lines)) × (length (now lines) ≤ 0x100000) ⌝ }
+{
+    let start = chip::power_up(part);
     let registers = start.registers;
     let pages = start.pages;
     let fifos = start.queues;
@@ -136,9 +237,13 @@ fn start(program: &[u8], watching: bool, input: &mut [u8], lines: &mut [u8])
     let mut memory = [0; 6144];
     let mut wire = [0; 2048];
     let mut out = [0; 2052];
-    serve_from(
+    if !write_asked(program, watching, asked, &words, &out, lines) {
+        return;
+    }
+    lend(
         program,
         watching,
+        asked,
         &mut words,
         &mut sets,
         &mut queues,
@@ -148,6 +253,69 @@ fn start(program: &[u8], watching: bool, input: &mut [u8], lines: &mut [u8])
         input,
         lines,
     );
+}
+
+// The input ends within record 1: the line of what is there, on the LAN91C96.
+fn serve_none(program: &[u8], watching: bool, lines: &mut [u8], kept: usize)
+    requires { ⌜ (roomFor watching 1 ≤ length (now lines)) × (length (now lines) ≤ 0x100000) ⌝ }
+{
+    let start = chip::power_up(Part::Lan91c96);
+    let registers = start.registers;
+    let words = registers.words;
+    let out = [0; 2052];
+    let end = last_line(watching, &words, &out, lines, kept, 1);
+    write_lines(program, lines, end, 1);
+}
+
+// Reads record 1: eight bytes, or those that are left where the input ends. That it cannot be read is said. Returns how many bytes there are.
+fn read_first(program: &[u8], bytes: &mut [u8]) -> usize
+    requires { ⌜ length (now bytes) ≡ 8 ⌝ }
+    ensures { λ n. ⌜ n ≤ 8 ⌝ }
+{
+    let mut filled = 0;
+    while filled < 8 {
+        let reading = streams::read_more(bytes, filled);
+        let Reading::Filled(n) = reading else {
+            if let Reading::Failed = reading {
+                streams::unread(program, 0);
+            }
+            return filled;
+        };
+        filled = n;
+    }
+    filled
+}
+
+// The part that powers up, and whether record 1 asked for it.
+struct Opening {
+    part: Part,
+    asked: bool,
+}
+
+fn opens_with(named: Named) -> Opening {
+    match named {
+        Named::Known(part) => Opening { part, asked: true },
+        Named::Unknown => Opening {
+            part: Part::Lan91c96,
+            asked: false,
+        },
+    }
+}
+
+// With these buffers for records and lines: record 1 may ask for the part, and without that it is the LAN91C96.
+fn start(program: &[u8], watching: bool, input: &mut [u8], lines: &mut [u8])
+    requires { ⌜ (8 ≤ length (now input)) × (length (now input) ≤ 8192) × (roomFor watching (length (now input) / 8) ≤ length (now lines)) × (length (now lines) ≤ 0x100000) ⌝ }
+{
+    let filled = read_first(program, &mut input[..8]);
+    if filled < 8 {
+        serve_none(program, watching, lines, filled);
+        return;
+    }
+    let named = records::part_asked(&input[..8]);
+    let opening = opens_with(named);
+    let part = opening.part;
+    let asked = opening.asked;
+    serve_part(program, watching, part, asked, input, lines);
 }
 
 // The bench; `program` is the name that it has on standard error.

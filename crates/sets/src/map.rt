@@ -5,7 +5,7 @@ use std::num::wrapping_add_u32;
 ghost use mathlib.Core.Path.{_≡_};
 ghost use mathlib.Core.Bool.{cond};
 ghost use mathlib.Core.List.{[], map};
-ghost use Prim.Native.Nat.{ℕ, _<_};
+ghost use Prim.Native.Nat.{ℕ, _-_, _^_, _≤_, _<_};
 ghost use lib.Count.{ones};
 ghost use lib.Dec.{ltb};
 ghost use lib.ListN.{length, take, set, getD, replicate};
@@ -40,11 +40,21 @@ pub fn owned_set(sets: &[u32]) -> u32
     taken
 }
 
-// The pages below 24 that no packet owns.
-pub fn free_set(sets: &[u32]) -> u32
-    ensures { λ r. ⌜ pagesOf r ≡ freeBelow 24 (map pagesOf (now (sets .entry))) ⌝ }
+// All pages of a part that has so many.
+fn all_pages(count: usize) -> u32
+    requires { ⌜ count ≤ 24 ⌝ }
+    ensures { λ r. ⌜ r ≡ 2 ^ count - 1 ⌝ }
 {
-    (owned_set(sets) ^ 0xff_ffff) & 0xff_ffff
+    (1 << count) - 1
+}
+
+// The pages that no packet owns: a part has as many as packets.
+pub fn free_set(sets: &[u32]) -> u32
+    requires { ⌜ length (now sets) ≤ 24 ⌝ }
+    ensures { λ r. ⌜ pagesOf r ≡ freeBelow (length (now (sets .entry))) (map pagesOf (now (sets .entry))) ⌝ }
+{
+    let all = all_pages(sets.len());
+    (owned_set(sets) ^ all) & all
 }
 
 // The lowest number with no pages, and the number of sets where each has some.
@@ -63,13 +73,15 @@ pub fn lowest_unallocated(sets: &[u32]) -> usize
     }
 }
 
-// No packet has pages.
+// No packet has pages. Only what is not 0 is stored: stores of all are a call of memset by the length, and a write's stack 16 bytes deeper.
 pub fn cleared(sets: &mut [u32])
     ensures { λ _. ⌜ map pagesOf (now (sets .exit)) ≡ replicate (length (now (sets .entry))) [] ⌝ }
 {
     let mut k = 0;
     while k < sets.len() {
-        sets[k] = 0;
+        if sets[k] != 0 {
+            sets[k] = 0;
+        }
         k += 1;
     }
 }
@@ -84,9 +96,9 @@ pub fn released(sets: &mut [u32], packet: Packet)
 
 // The packet has the `need` lowest free pages, which are returned.
 pub fn granted(sets: &mut [u32], packet: Packet, need: u32) -> u32
-    requires { ⌜ packet .0 < length (now sets) ⌝ }
-    ensures pages { λ r. ⌜ pagesOf r ≡ take need (freeBelow 24 (map pagesOf (now (sets .entry)))) ⌝ }
-    ensures given { λ r. ⌜ map pagesOf (now (sets .exit)) ≡ set (map pagesOf (now (sets .entry))) (packet .0) (take need (freeBelow 24 (map pagesOf (now (sets .entry))))) ⌝ }
+    requires { ⌜ (packet .0 < length (now sets)) × (length (now sets) ≤ 24) ⌝ }
+    ensures pages { λ r. ⌜ pagesOf r ≡ take need (freeBelow (length (now (sets .entry))) (map pagesOf (now (sets .entry)))) ⌝ }
+    ensures given { λ r. ⌜ map pagesOf (now (sets .exit)) ≡ set (map pagesOf (now (sets .entry))) (packet .0) (take need (freeBelow (length (now (sets .entry))) (map pagesOf (now (sets .entry))))) ⌝ }
 {
     let pages = lowest(free_set(sets), need);
     sets[packet.0 as usize] = pages;
@@ -151,22 +163,23 @@ fn joined(sets: &[u32]) -> Rows
 // Are the page lists what document 01 asks, and how many pages are free? 0 where they are not.
 pub struct Checked(pub bool, pub u32);
 
-// The sum is the join exactly where no page is in two sets. The sets are counted one by one only where more than 8 pages stand in one of the four joins.
-pub fn audit(sets: &[u32]) -> Checked
-    requires { ⌜ length (now sets) ≡ 24 ⌝ }
-    ensures good { λ r. ⌜ Decides (r .0) (GoodPages 24 (map pagesOf (now (sets .entry)))) ⌝ }
-    ensures free { λ r. ⌜ r .1 ≡ cond (r .0) (length (freeBelow 24 (map pagesOf (now (sets .entry))))) 0 ⌝ }
+// Of a part with so many pages. The sum is the join exactly where no page is in two sets. The sets are counted one by one only where more than 8 pages stand in one of the four joins.
+pub fn audit(sets: &[u32], count: usize) -> Checked
+    requires { ⌜ (length (now sets) ≡ 24) × (count ≤ 24) ⌝ }
+    ensures good { λ r. ⌜ Decides (r .0) (GoodPages count (map pagesOf (now (sets .entry)))) ⌝ }
+    ensures free { λ r. ⌜ r .1 ≡ cond (r .0) (length (freeBelow count (map pagesOf (now (sets .entry))))) 0 ⌝ }
 {
+    let all = all_pages(count);
     let j = joined(sets);
     let owned = (j.0 | j.1) | (j.2 | j.3);
-    if 0x100_0000 <= owned {
+    if all < owned {
         return Checked(false, 0);
     }
     if j.4 != owned {
         return Checked(false, 0);
     }
     let pages = u32::count_ones(owned);
-    let free = 24 - pages;
+    let free = count as u32 - pages;
     if pages <= MOST {
         return Checked(true, free);
     }

@@ -1,10 +1,11 @@
 -- What the functions of the chip promise, whatever was lent: what its public entries do, told by one number.
 use mathlib.Core.Path.{_≡_}
 use mathlib.Core.Bool.{Bool, cond}
-use mathlib.Core.List.{List}
-use Prim.Native.Nat.{ℕ, _+_, _*_}
-use lib.ListN.{length}
+use mathlib.Core.List.{List, _++_}
+use Prim.Native.Nat.{ℕ, _+_, _*_, _<_}
+use lib.ListN.{length, drop}
 use Rattle.rules.specs.Bits.{flag}
+use Rattle.rules.specs.Parts.{partNamed}
 use Rattle.rules.specs.Chip.{paged}
 use Rattle.rules.specs.Answers.{Reply, refusal}
 use Rattle.rules.specs.Interrupts.{lineUp}
@@ -13,9 +14,7 @@ use Rattle.rules.specs.Step.{Input}
 use Rattle.state.specs.declared.Answer.{Answer}
 use Rattle.state.specs.declared.Answer.the-variants.{Done}
 use Rattle.state.specs.Meaning.{replyOf}
-use Rattle.state.specs.View.{view}
-use Rattle.state.specs.Promise.{Ready}
-use Rattle.state.specs.Entry.{AnswersOf, zeros, StartedOf}
+use Rattle.state.specs.Entry.{recordView, Holds, AnswersOf, zeros, StartedOf}
 
 -- what a call returns: the answer's number, and 16 bits of value below it
 abbrev pub told : Reply → ℕ
@@ -24,24 +23,43 @@ told r = r .number * 65536 + r .value
 abbrev pub wide : Bool → Width
 wide b = cond b word byte
 
--- the input i on a lent state w, s, q and memory: the promise of a public entry, and its answer is told
+-- the input i on a lent record w, s, q and memory: the promise of a public entry, and its answer is told
 pub record Calls (i : Input) (w s q mem : List ℕ) (n : ℕ) (w′ s′ q′ mem′ out′ : List ℕ) : Type 0 where
   pub answer : Answer
   pub entry : AnswersOf paged i w s q mem answer w′ s′ q′ mem′ out′
   pub returned : n ≡ told (replyOf answer)
 
--- a state as long as it must be, whatever is in it
+-- a record as long as it must be, whatever is in it
 pub record Sized (w s q : List ℕ) : Type 0 where
   pub words : length w ≡ 32
   pub sets : length s ≡ 24
   pub queues : length q ≡ 72
 
--- power-up on what is as long as it must be, whatever is in it; else 16, and nothing changes
-pub record PowersUp (w s q mem : List ℕ) (n : ℕ) (w′ s′ q′ mem′ : List ℕ) : Type 0 where
-  pub started : Sized w s q × (length mem ≡ 6144) → StartedOf paged (Done 0) w′ s′ q′ × (mem′ ≡ zeros paged) × (n ≡ 0)
-  pub refused : (Sized w s q × (length mem ≡ 6144) → ⊥) → (w′ ≡ w) × (s′ ≡ s) × (q′ ≡ q) × (mem′ ≡ mem) × (n ≡ told (refusal 16))
+-- beside it as many bytes as the part with k packets has
+abbrev pub LongAs : ℕ → List ℕ → List ℕ → List ℕ → List ℕ → Type 0
+LongAs k w s q mem = Sized w s q × (length mem ≡ 256 * k)
 
--- the line of a state that is in order, as 1 or 0; of any other 16
+-- the record of the part with k packets at power-up, beside its zero bytes; what was behind them is there still
+pub record StartsPart (k : ℕ) (mem w′ s′ q′ mem′ : List ℕ) : Type 0 where
+  pub state : StartedOf paged k (Done 0) w′ s′ q′
+  pub memory : mem′ ≡ zeros paged k ++ drop (256 * k) mem
+
+-- a refusal, and nothing changes
+pub record Refuses (number : ℕ) (w s q mem : List ℕ) (n : ℕ) (w′ s′ q′ mem′ : List ℕ) : Type 0 where
+  pub returned : n ≡ told (refusal number)
+  pub words : w′ ≡ w
+  pub sets : s′ ≡ s
+  pub queues : q′ ≡ q
+  pub memory : mem′ ≡ mem
+
+-- power-up of the part that the byte x names. 11 where it names none: that is asked first, for how long the memory must be is known of a part alone. Then 16 where a length is another one;
+-- else the part's record at power-up, and zeros as its memory, whatever was there
+pub record PowersUp (x : ℕ) (w s q mem : List ℕ) (n : ℕ) (w′ s′ q′ mem′ : List ℕ) : Type 0 where
+  pub unknown : partNamed x ≡ 0 → Refuses 11 w s q mem n w′ s′ q′ mem′
+  pub refused : 0 < partNamed x → (LongAs (partNamed x) w s q mem → ⊥) → Refuses 16 w s q mem n w′ s′ q′ mem′
+  pub started : 0 < partNamed x → LongAs (partNamed x) w s q mem → StartedOf paged (partNamed x) (Done 0) w′ s′ q′ × (mem′ ≡ zeros paged (partNamed x)) × (n ≡ 0)
+
+-- the line of a record that is in order, as 1 or 0; of any other 16
 pub record ShowsLine (w s q : List ℕ) (n : ℕ) : Type 0 where
-  pub up : Ready w s q → (mem : List ℕ) → n ≡ flag (lineUp (view w s q mem))
-  pub refused : (Ready w s q → ⊥) → n ≡ told (refusal 16)
+  pub up : Holds w s q → (mem : List ℕ) → n ≡ flag (lineUp (recordView paged w s q mem))
+  pub refused : (Holds w s q → ⊥) → n ≡ told (refusal 16)

@@ -2,21 +2,22 @@
 -- the wire buffer behind the gathered ones.
 use mathlib.Core.Path.{_≡_, ap, ap₂, sym, _∙_}
 use mathlib.Core.List.{List, [], _++_}
-use Prim.Native.Nat.{ℕ, _+_, _≤_}
+use Prim.Native.Nat.{ℕ, _+_, _*_, _≤_}
 use native.Mathlib.Omega.{arith}
 use native.Mathlib.Decide.{ℕ-discrete, decLe}
 use lib.ListN.{length, take, drop, take-append-drop}
+use Rattle.rules.specs.Parts.{partNamed}
 use Rattle.rules.specs.Chip.{paged}
 use Rattle.rules.specs.Step.{Input}
+use Rattle.rules.specs.Bench.{Bench, Answered}
+use Rattle.state.specs.declared.Answer.{Answer}
 use Rattle.state.specs.Meaning.{replyOf}
-use Rattle.state.specs.Promise.{Ready}
-use Rattle.state.specs.Entry.{InOrder}
-use Rattle.state.specs.Only.{only, started-once}
-use Rattle.state.specs.Decided.{ready?, decided}
-use Rattle.turns.specs.Once.{Same}
-use Rattle.turns.specs.Served.{served-once}
-use Rattle.skarvoya.specs.Calls.{told, Calls, Sized, PowersUp, ShowsLine}
-use Rattle.skarvoya.specs.Records.{BenchInOrder, Roomy, ServesNext, RefusesRecord, AnswersRecord}
+use Rattle.state.specs.Entry.{sizeIn, Holds}
+use Rattle.state.specs.Only.{one-record, only, started-once}
+use Rattle.state.specs.Decided.{holds?}
+use Rattle.turns.specs.Once.{same-place, Same}
+use Rattle.skarvoya.specs.Calls.{told, Calls, Sized, LongAs, Refuses, PowersUp, ShowsLine}
+use Rattle.skarvoya.specs.Records.{ofMemory, behindMemory, BenchInOrder, Roomy, TurnsBench, ServesNext, RefusesRecord, AnswersRecord}
 
 -- An access, a frame, a send, a link event.
 pub calls-once : (i : Input) (w s q mem : List ℕ) {n n′ : ℕ} {w₁ s₁ q₁ mem₁ out₁ w₂ s₂ q₂ mem₂ out₂ : List ℕ} → Calls i w s q mem n w₁ s₁ q₁ mem₁ out₁ → Calls i w s q mem n′ w₂ s₂ q₂ mem₂ out₂
@@ -39,39 +40,61 @@ sized? w s q = go (both? (ℕ-discrete (length w) 32) (both? (ℕ-discrete (leng
     go (no n) = no (λ x. n (x .words, (x .sets, x .queues)))
 
 -- Power-up.
-pub powers-up-once : (w s q mem : List ℕ) {n n′ : ℕ} {w₁ s₁ q₁ mem₁ w₂ s₂ q₂ mem₂ : List ℕ} → PowersUp w s q mem n w₁ s₁ q₁ mem₁ → PowersUp w s q mem n′ w₂ s₂ q₂ mem₂
+pub powers-up-once : (x : ℕ) (w s q mem : List ℕ) {n n′ : ℕ} {w₁ s₁ q₁ mem₁ w₂ s₂ q₂ mem₂ : List ℕ} → PowersUp x w s q mem n w₁ s₁ q₁ mem₁ → PowersUp x w s q mem n′ w₂ s₂ q₂ mem₂
     → (n ≡ n′) × (w₁ ≡ w₂) × (s₁ ≡ s₂) × (q₁ ≡ q₂) × (mem₁ ≡ mem₂)
-powers-up-once w s q mem {n} {n′} {w₁} {s₁} {q₁} {mem₁} {w₂} {s₂} {q₂} {mem₂} x y = go (both? (sized? w s q) (ℕ-discrete (length mem) 6144))
+powers-up-once x w s q mem {n} {n′} {w₁} {s₁} {q₁} {mem₁} {w₂} {s₂} {q₂} {mem₂} u v = go (decLe 1 (partNamed x)) (both? (sized? w s q) (ℕ-discrete (length mem) (256 * partNamed x)))
   where
-    go : Dec (Sized w s q × (length mem ≡ 6144)) → (n ≡ n′) × (w₁ ≡ w₂) × (s₁ ≡ s₂) × (q₁ ≡ q₂) × (mem₁ ≡ mem₂)
-    go (yes z) =
-        let u = x .started z in
-        let v = y .started z in
-        let e = started-once (u .0) (v .0) in
-        (u .2 ∙ sym (v .2), e .1, e .2, e .3, u .1 ∙ sym (v .1))
-    go (no z) =
-        let u = x .refused z in
-        let v = y .refused z in
-        (u .4 ∙ sym (v .4), u .0 ∙ sym (v .0), u .1 ∙ sym (v .1), u .2 ∙ sym (v .2), u .3 ∙ sym (v .3))
+    refusing : (k : ℕ) → Refuses k w s q mem n w₁ s₁ q₁ mem₁ → Refuses k w s q mem n′ w₂ s₂ q₂ mem₂ → (n ≡ n′) × (w₁ ≡ w₂) × (s₁ ≡ s₂) × (q₁ ≡ q₂) × (mem₁ ≡ mem₂)
+    refusing k a b = (a .returned ∙ sym (b .returned), a .words ∙ sym (b .words), a .sets ∙ sym (b .sets), a .queues ∙ sym (b .queues), a .memory ∙ sym (b .memory))
+
+    go : Dec (1 ≤ partNamed x) → Dec (LongAs (partNamed x) w s q mem) → (n ≡ n′) × (w₁ ≡ w₂) × (s₁ ≡ s₂) × (q₁ ≡ q₂) × (mem₁ ≡ mem₂)
+    go (yes h) (yes z) =
+        let a = u .started h z in
+        let b = v .started h z in
+        let e = started-once (a .0) (b .0) in
+        (a .2 ∙ sym (b .2), e .1, e .2, e .3, a .1 ∙ sym (b .1))
+    go (yes h) (no z) = refusing 16 (u .refused h z) (v .refused h z)
+    go (no h) d =
+        let none : partNamed x ≡ 0 = omega arith in
+        refusing 11 (u .unknown none) (v .unknown none)
 
 -- The line.
 pub shows-line-once : (w s q : List ℕ) {n n′ : ℕ} → ShowsLine w s q n → ShowsLine w s q n′ → n ≡ n′
-shows-line-once w s q {n} {n′} x y = go (ready? paged w s q)
+shows-line-once w s q {n} {n′} x y = go (holds? paged w s q)
   where
-    go : Dec (Ready w s q) → n ≡ n′
+    go : Dec (Holds w s q) → n ≡ n′
     go (yes o) = x .up o [] ∙ sym (y .up o [])
     go (no z) = x .refused z ∙ sym (y .refused z)
 
 bench? : (w s q mem wire : List ℕ) (have count : ℕ) → Dec (BenchInOrder w s q mem wire have count)
-bench? w s q mem wire have count = go (both? (decided paged w s q mem) (both? (ℕ-discrete (length wire) 2048) (both? (decLe have 2048) (decLe (count + 1) 0xffffffffffffffff))))
+bench? w s q mem wire have count = go (both? (holds? paged w s q) (both? (ℕ-discrete (length mem) 6144) (both? (ℕ-discrete (length wire) 2048) (both? (decLe have 2048) (decLe (count + 1) 0xffffffffffffffff)))))
   where
-    go : Dec (InOrder w s q mem × ((length wire ≡ 2048) × ((have ≤ 2048) × (count + 1 ≤ 0xffffffffffffffff)))) → Dec (BenchInOrder w s q mem wire have count)
-    go (yes x) = yes (record { held = record { chip = x .0; room = x .1 .0; few = x .1 .1 .0 }; next = omega (arith, x .1 .1 .1) })
-    go (no n) = no (λ x. n (x .held .chip, (x .held .room, (x .held .few, omega (arith, x .next)))))
+    go : Dec (Holds w s q × ((length mem ≡ 6144) × ((length wire ≡ 2048) × ((have ≤ 2048) × (count + 1 ≤ 0xffffffffffffffff))))) → Dec (BenchInOrder w s q mem wire have count)
+    go (yes x) = yes (record { held = record { chip = x .0; full = x .1 .0; room = x .1 .1 .0; few = x .1 .1 .1 .0 }; next = omega (arith, x .1 .1 .1 .1) })
+    go (no n) = no (λ x. n (x .held .chip, (x .held .full, (x .held .room, (x .held .few, omega (arith, x .next))))))
 
 -- Two buffers that agree before a place and behind it agree.
 whole-once : (i : ℕ) (l m : List ℕ) → take i l ≡ take i m → drop i l ≡ drop i m → l ≡ m
 whole-once i l m e f = sym (take-append-drop i l) ∙ ap₂ (λ (x y : List ℕ). x ++ y) e f ∙ take-append-drop i m
+
+-- A turn of the bench leaves one bench, the bytes behind the part's memory too.
+bench-once : {x : Answered} {mem : List ℕ} {a b : Answer} {w₁ s₁ q₁ mem₁ wire₁ : List ℕ} {have₁ : ℕ} {out₁ w₂ s₂ q₂ mem₂ wire₂ : List ℕ} {have₂ : ℕ} {out₂ : List ℕ} → TurnsBench x mem a w₁ s₁ q₁ mem₁ wire₁ have₁ out₁ → TurnsBench x mem b w₂ s₂ q₂ mem₂ wire₂ have₂ out₂
+    → Same w₁ s₁ q₁ mem₁ wire₁ have₁ out₁ w₂ s₂ q₂ mem₂ wire₂ have₂ out₂
+bench-once {mem = mem} {w₁ = w₁} {mem₁ = mem₁} {wire₁ = wire₁} {w₂ = w₂} {mem₂ = mem₂} {wire₂ = wire₂} x y =
+    let e = x .bench ∙ sym (y .bench) in
+    let c = one-record (x .held .chip) (y .held .chip) (ap (λ (b : Bench). b .chip) e) in
+    let gathered = ap (λ (b : Bench). b .gathered) e in
+    let front : ofMemory w₁ mem₁ ≡ ofMemory w₁ mem₂ = c .3 ∙ ap (λ (w : List ℕ). ofMemory w mem₂) (sym (c .0)) in
+    let behind : behindMemory w₁ mem₂ ≡ behindMemory w₁ mem = ap (λ (w : List ℕ). behindMemory w mem₂) (c .0) ∙ y .rest ∙ ap (λ (w : List ℕ). behindMemory w mem) (sym (c .0)) in
+    record {
+      words = c .0;
+      sets = c .1;
+      queues = c .2;
+      memory = whole-once (256 * sizeIn w₁) mem₁ mem₂ front (x .rest ∙ sym behind);
+      gathered = gathered;
+      many = same-place wire₁ wire₂ (omega (arith, x .held .few, x .held .room)) (omega (arith, y .held .few, y .held .room)) gathered;
+      output = ap (λ (b : Bench). b .output) e;
+    }
 
 -- What a record of the bench returns and leaves is the same: number, state, memory, wire bytes, output, count of records, the line's buffer and the line's end.
 pub record Alike (n : ℕ) (w s q mem wire : List ℕ) (have : ℕ) (out : List ℕ) (count : ℕ) (line : List ℕ) (end n′ : ℕ) (w′ s′ q′ mem′ wire′ : List ℕ) (have′ : ℕ) (out′ : List ℕ) (count′ : ℕ) (line′ : List ℕ) (end′ : ℕ) : Type 0 where
@@ -85,15 +108,16 @@ module _ {w s q mem wire : List ℕ} {have : ℕ} {out : List ℕ} {count : ℕ}
   served : {bytes : List ℕ} → ServesNext bytes w s q mem wire have out count line n w₁ s₁ q₁ mem₁ wire₁ have₁ out₁ count₁ line₁ end₁ → ServesNext bytes w s q mem wire have out count line n′ w₂ s₂ q₂ mem₂ wire₂ have₂ out₂ count₂ line₂ end₂
       → Alike n w₁ s₁ q₁ mem₁ wire₁ have₁ out₁ count₁ line₁ end₁ n′ w₂ s₂ q₂ mem₂ wire₂ have₂ out₂ count₂ line₂ end₂
   served x y =
-      let e = served-once (x .serves .served) (y .serves .served) in
-      let behind : drop end₁ line₂ ≡ drop end₁ line = ap (λ (k : ℕ). drop k line₂) (e .2) ∙ y .serves .behind ∙ ap (λ (k : ℕ). drop k line) (sym (e .2)) in
-      let front : take end₁ line₁ ≡ take end₁ line₂ = e .1 ∙ ap (λ (k : ℕ). take k line₂) (sym (e .2)) in
+      let text : take end₁ line₁ ≡ take end₂ line₂ = x .serves .text ∙ sym (y .serves .text) in
+      let end : end₁ ≡ end₂ = same-place line₁ line₂ (x .serves .fits) (y .serves .fits) text in
+      let behind : drop end₁ line₂ ≡ drop end₁ line = ap (λ (k : ℕ). drop k line₂) end ∙ y .serves .behind ∙ ap (λ (k : ℕ). drop k line) (sym end) in
+      let front : take end₁ line₁ ≡ take end₁ line₂ = text ∙ ap (λ (k : ℕ). take k line₂) (sym end) in
       record {
-        returned = x .returned ∙ ap told (x .serves .reply ∙ sym (y .serves .reply)) ∙ sym (y .returned);
-        bench = e .0;
+        returned = x .returned ∙ ap told (x .serves .turns .reply ∙ sym (y .serves .turns .reply)) ∙ sym (y .returned);
+        bench = bench-once (x .serves .turns) (y .serves .turns);
         counted = x .counted ∙ sym (y .counted);
         buffer = whole-once end₁ line₁ line₂ front (x .serves .behind ∙ sym behind);
-        printed = e .2;
+        printed = end;
       }
 
   refused : (k : ℕ) → RefusesRecord k w s q mem wire have out count line n w₁ s₁ q₁ mem₁ wire₁ have₁ out₁ count₁ line₁ end₁ → RefusesRecord k w s q mem wire have out count line n′ w₂ s₂ q₂ mem₂ wire₂ have₂ out₂ count₂ line₂ end₂

@@ -1,38 +1,70 @@
 -- What a record of the bench promises, whatever was lent: the rules' bench after it, and the rules' line.
 use mathlib.Core.Path.{_≡_}
+use mathlib.Core.Bool.{cond}
 use mathlib.Core.List.{List}
-use Prim.Native.Nat.{ℕ, _+_, _≤_, _<_}
+use Prim.Native.Nat.{ℕ, _+_, _*_, _≤_, _<_}
+use lib.Dec.{eqb}
 use lib.ListN.{length, take, drop}
 use Rattle.rules.specs.Chip.{paged}
 use Rattle.rules.specs.Answers.{refusal}
-use Rattle.rules.specs.Bench.{Bench, answer}
+use Rattle.rules.specs.Bench.{Event, Bench, Answered, asksFor, answerTo, plain}
 use Rattle.records.specs.Gathers.{holding}
 use Rattle.state.specs.declared.Answer.{Answer}
 use Rattle.state.specs.Meaning.{replyOf}
-use Rattle.state.specs.View.{view}
-use Rattle.turns.specs.Turns.{Held}
-use Rattle.turns.specs.Served.{asked, ServedOf}
+use Rattle.state.specs.Entry.{sizeIn, recordView, Holds}
+use Rattle.turns.specs.Served.{asked}
 use Rattle.skarvoya.specs.Calls.{told}
 
--- what a bench keeps from record to record: a chip in order, wire bytes within their buffer, and a count of records that has a next one
+-- A bench is lent room for the memory of either part: that of its part is the first bytes of it.
+abbrev pub ofMemory : List ℕ → List ℕ → List ℕ
+ofMemory w mem = take (256 * sizeIn w) mem
+
+-- the bytes behind them, which nobody looks at
+abbrev pub behindMemory : List ℕ → List ℕ → List ℕ
+behindMemory w mem = drop (256 * sizeIn w) mem
+
+-- the rules' bench that this one stands for
+abbrev pub benchOf : List ℕ → List ℕ → List ℕ → List ℕ → List ℕ → ℕ → List ℕ → Bench
+benchOf w s q mem wire have out = holding (recordView paged w s q (ofMemory w mem)) (take have wire) out
+
+-- what a bench keeps from record to record: a chip's record in order, room for the memory of either part, and wire bytes within their buffer
+pub record BenchHeld (w s q mem wire : List ℕ) (have : ℕ) : Type 0 where
+  pub chip : Holds w s q
+  pub full : length mem ≡ 6144
+  pub room : length wire ≡ 2048
+  pub few : have ≤ 2048
+
+-- and a count of records that has a next one
 pub record BenchInOrder (w s q mem wire : List ℕ) (have count : ℕ) : Type 0 where
-  pub held : Held w s q mem wire have
+  pub held : BenchHeld w s q mem wire have
   pub next : count < 0xffffffffffffffff
 
 -- room for what a send puts out, and for a line
 abbrev pub Roomy : List ℕ → List ℕ → Type 0
 Roomy out line = (2052 ≤ length out) × (40 ≤ length line)
 
+-- how many packets the part has that the record of this number starts, 0 where it starts none: the first alone may
+abbrev pub partStarted : ℕ → Event → ℕ
+partStarted number e = cond (eqb number 1) (asksFor e) 0
+
+-- a is returned, and the bench is then the rules'; of the memory the bytes behind those of the part, which may be another part now, are as before
+pub record TurnsBench (x : Answered) (mem : List ℕ) (a : Answer) (w s q mem′ wire : List ℕ) (have : ℕ) (out : List ℕ) : Type 0 where
+  pub reply : replyOf a ≡ x .reply
+  pub bench : benchOf w s q mem′ wire have out ≡ x .after
+  pub held : BenchHeld w s q mem′ wire have
+  pub rest : behindMemory w mem′ ≡ behindMemory w mem
+
 -- the record of this number is answered with a, as the rules' bench answers it; its line is at the front of the buffer, and the rest of that stays
-pub record Serves (number : ℕ) (bytes : List ℕ) (b : Bench) (line : List ℕ) (a : Answer) (w s q mem wire : List ℕ) (have : ℕ) (out line′ : List ℕ) (end : ℕ) : Type 0 where
-  pub served : ServedOf paged number bytes b w s q mem wire have out line′ end
-  pub reply : replyOf a ≡ answer (asked bytes) b .reply
+pub record Serves (number : ℕ) (bytes : List ℕ) (b : Bench) (mem line : List ℕ) (a : Answer) (w s q mem′ wire : List ℕ) (have : ℕ) (out line′ : List ℕ) (end : ℕ) : Type 0 where
+  pub turns : TurnsBench (answerTo number (asked bytes) b) mem a w s q mem′ wire have out
+  pub text : take end line′ ≡ plain number (asked bytes) (answerTo number (asked bytes) b)
+  pub fits : end ≤ length line′
   pub behind : drop end line′ ≡ drop end line
 
 -- so is the record of the next number: its first eight bytes, or those that are there. It is counted, and the answer told
 pub record ServesNext (bytes w s q mem wire : List ℕ) (have : ℕ) (out : List ℕ) (count : ℕ) (line : List ℕ) (n : ℕ) (w′ s′ q′ mem′ wire′ : List ℕ) (have′ : ℕ) (out′ : List ℕ) (count′ : ℕ) (line′ : List ℕ) (end : ℕ) : Type 0 where
   pub given : Answer
-  pub serves : Serves (count + 1) (take 8 bytes) (holding (view w s q mem) (take have wire) out) line given w′ s′ q′ mem′ wire′ have′ out′ line′ end
+  pub serves : Serves (count + 1) (take 8 bytes) (benchOf w s q mem wire have out) mem line given w′ s′ q′ mem′ wire′ have′ out′ line′ end
   pub returned : n ≡ told (replyOf given)
   pub counted : count′ ≡ count + 1
 

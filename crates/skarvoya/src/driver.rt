@@ -23,7 +23,7 @@ pub extern "C" fn skarvoya_read(
     if !in_order(words, sets, queues, memory) {
         return told(Answer::Damaged);
     }
-    told(chip::read(words, sets, queues, memory, width_of(word), offset))
+    told(chip::read_whole(words, sets, queues, memory, width_of(word), offset))
 }
 
 // Writes a word, or the value's low byte.
@@ -42,5 +42,5 @@ pub extern "C" fn skarvoya_write(
     if !in_order(words, sets, queues, memory) {
         return told(Answer::Damaged);
     }
-    told(chip::write(words, sets, queues, memory, width_of(word), offset, value))
+    told(chip::write_whole(words, sets, queues, memory, width_of(word), offset, value))
 }

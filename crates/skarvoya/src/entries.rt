@@ -1,11 +1,15 @@
 // Power-up, and the interrupt line.
+use crate::order::long_as;
 use crate::order::ready;
-use crate::order::sized;
 use crate::told::told;
 use state::Answer;
+use state::Named;
+use state::Part;
 ghost use mathlib.Core.Path.{_≡_};
+ghost use Prim.Native.Nat.{_*_, _≤_};
 ghost use lib.ListN.{length, replicate};
-ghost use Rattle.skarvoya.specs.Calls.{PowersUp, ShowsLine};
+ghost use Rattle.state.specs.Meaning.{packetsOf};
+ghost use Rattle.skarvoya.specs.Calls.{Sized, StartsPart, PowersUp, ShowsLine};
 
 // Every byte is 0.
 fn zeroed(bytes: &mut [u8])
@@ -18,27 +22,43 @@ fn zeroed(bytes: &mut [u8])
     }
 }
 
-// The chip at power-up, whatever state and memory were before.
+// A part at power-up, whatever record and memory were before; bytes behind its own stay.
+pub fn started(
+    words: &mut [u16],
+    sets: &mut [u32],
+    queues: &mut [u8],
+    memory: &mut [u8],
+    part: Part,
+)
+    requires { ⌜ Sized (now words) (now sets) (now queues) × (256 * packetsOf part ≤ length (now memory)) ⌝ }
+    ensures { λ _. ⌜ StartsPart (packetsOf part) (now (memory .entry)) (now (words .exit)) (now (sets .exit)) (now (queues .exit)) (now (memory .exit)) ⌝ }
+{
+    let n = 256 * state::packets_of(part);
+    chip::powered(words, sets, queues, part);
+    zeroed(&mut memory[..n]);
+}
+
+// The part that a byte names, at power-up.
 #[no_mangle]
 pub extern "C" fn skarvoya_power_up(
+    part: u8,
     words: &mut [u16],
     sets: &mut [u32],
     queues: &mut [u8],
     memory: &mut [u8],
 ) -> u32
-    ensures { λ n. ⌜ PowersUp (now (words .entry)) (now (sets .entry)) (now (queues .entry)) (now (memory .entry)) n (now (words .exit)) (now (sets .exit)) (now (queues .exit)) (now (memory .exit)) ⌝ }
+    ensures { λ n. ⌜ PowersUp part (now (words .entry)) (now (sets .entry)) (now (queues .entry)) (now (memory .entry)) n (now (words .exit)) (now (sets .exit)) (now (queues .exit)) (now (memory .exit)) ⌝ }
 {
-    if memory.len() != 6144 {
-        return told(Answer::Damaged);
+    match state::part_named(part) {
+        Named::Known(known) => {
+            if !long_as(known, words, sets, queues, memory) {
+                return told(Answer::Damaged);
+            }
+            started(words, sets, queues, memory, known);
+            told(Answer::Done(0))
+        }
+        Named::Unknown => told(Answer::OutsideLimits),
     }
-    if !sized(words, sets, queues) {
-        return told(Answer::Damaged);
-    }
-    registers::zeroed(words);
-    registers::reset_words(words);
-    pool::reset(words, sets, queues);
-    zeroed(memory);
-    told(Answer::Done(0))
 }
 
 // Is the interrupt line up? 1 or 0.

@@ -22,7 +22,7 @@ pub extern "C" fn skarvoya_frame(
     if !in_order(words, sets, queues, memory) {
         return told(Answer::Damaged);
     }
-    told(chip::arrived(words, sets, queues, memory, frame, alignment))
+    told(chip::arrived_whole(words, sets, queues, memory, frame, alignment))
 }
 
 // The packet at the head of TX has been sent; what is put out goes to the front of the output buffer.
@@ -42,7 +42,7 @@ pub extern "C" fn skarvoya_send(
     if !in_order(words, sets, queues, memory) {
         return told(Answer::Damaged);
     }
-    told(chip::finished(
+    told(chip::finished_whole(
         words,
         sets,
         queues,
@@ -68,5 +68,5 @@ pub extern "C" fn skarvoya_link(
     if !in_order(words, sets, queues, memory) {
         return told(Answer::Damaged);
     }
-    told(chip::linked(words, sets, queues, memory, up))
+    told(chip::linked_whole(words, sets, queues, memory, up))
 }

@@ -1,18 +1,21 @@
 // A record of the bench, and its printed line.
-use crate::order::in_order;
+use crate::entries::started;
+use crate::order::ready;
 use crate::told::told;
 use on_wire::OUTPUT_BYTES;
 use state::Answer;
+use state::Named;
 ghost use mathlib.Core.Path.{_≡_};
 ghost use Prim.Native.Nat.{_≤_};
 ghost use lib.ListN.{length, take};
 ghost use Rattle.rules.specs.Bench as rules;
 ghost use Rattle.lists.specs.Facts.{Decides};
-ghost use Rattle.records.specs.Gathers.{holding};
-ghost use Rattle.state.specs.View.{view};
-ghost use Rattle.turns.specs.Turns.{Held, Turns};
+ghost use Rattle.state.specs.Meaning.{packetsNamed};
 ghost use Rattle.turns.specs.Served.{asked};
-ghost use Rattle.skarvoya.specs.Records.{BenchInOrder, Roomy, Serves, AnswersRecord};
+ghost use Rattle.skarvoya.specs.Records.{BenchHeld, BenchInOrder, Roomy, benchOf, partStarted, TurnsBench, Serves, AnswersRecord};
+
+// Room for the memory of either part.
+const MEMORY_BYTES: usize = 6144;
 
 // As many wire bytes are gathered at most, and their buffer has this room.
 const WIRE_BYTES: usize = 2048;
@@ -35,6 +38,9 @@ fn bench_in_order(
 ) -> bool
     ensures { λ b. ⌜ Decides b (BenchInOrder (now (words .entry)) (now (sets .entry)) (now (queues .entry)) (now (memory .entry)) (now (wire .entry)) gathered count) ⌝ }
 {
+    if memory.len() != MEMORY_BYTES {
+        return false;
+    }
     if wire.len() != WIRE_BYTES {
         return false;
     }
@@ -44,10 +50,10 @@ fn bench_in_order(
     if LAST_COUNT <= count {
         return false;
     }
-    in_order(words, sets, queues, memory)
+    ready(words, sets, queues)
 }
 
-// The answer to the first eight bytes; fewer are a record cut short.
+// The answer to the first eight bytes; fewer are a record cut short. The step is lent the places and the bytes of the part.
 fn answer(
     words: &mut [u16],
     sets: &mut [u32],
@@ -58,22 +64,61 @@ fn answer(
     output: &mut [u8],
     bytes: &[u8],
 ) -> Answer
-    requires { ⌜ Held (now words) (now sets) (now queues) (now memory) (now wire) (now gathered) ⌝ }
-    ensures { λ a. ⌜ Turns (rules.answer (asked (take 8 (now (bytes .entry)))) (holding (view (now (words .entry)) (now (sets .entry)) (now (queues .entry)) (now (memory .entry))) (take (now (gathered .entry)) (now (wire .entry))) (now (output .entry)))) a (now (words .exit)) (now (sets .exit)) (now (queues .exit)) (now (memory .exit)) (now (wire .exit)) (now (gathered .exit)) (now (output .exit)) ⌝ }
+    requires { ⌜ BenchHeld (now words) (now sets) (now queues) (now memory) (now wire) (now gathered) ⌝ }
+    ensures { λ a. ⌜ TurnsBench (rules.answer (asked (take 8 (now (bytes .entry)))) (benchOf (now (words .entry)) (now (sets .entry)) (now (queues .entry)) (now (memory .entry)) (now (wire .entry)) (now (gathered .entry)) (now (output .entry)))) (now (memory .entry)) a (now (words .exit)) (now (sets .exit)) (now (queues .exit)) (now (memory .exit)) (now (wire .exit)) (now (gathered .exit)) (now (output .exit)) ⌝ }
 {
     if bytes.len() < 8 {
         return Answer::CutShort;
     }
+    let n = state::size_in(words);
     turns::answer(
         words,
-        sets,
+        &mut sets[..n],
         queues,
-        memory,
+        &mut memory[..256 * n],
         wire,
         gathered,
         output,
         &bytes[..8],
     )
+}
+
+// The part that the record of this number starts, if it starts one: the first alone may.
+fn part_started(number: u64, bytes: &[u8]) -> Named
+    ensures { λ r. ⌜ packetsNamed r ≡ partStarted number (asked (take 8 (now (bytes .entry)))) ⌝ }
+{
+    if number != 1 {
+        return Named::Unknown;
+    }
+    if bytes.len() < 8 {
+        return Named::Unknown;
+    }
+    records::part_asked(&bytes[..8])
+}
+
+// The answer by the record's number: a part starts, in the first bytes of the memory, or the record is answered as any other.
+fn turn(
+    words: &mut [u16],
+    sets: &mut [u32],
+    queues: &mut [u8],
+    memory: &mut [u8],
+    wire: &mut [u8],
+    gathered: &mut usize,
+    output: &mut [u8],
+    number: u64,
+    bytes: &[u8],
+) -> Answer
+    requires { ⌜ BenchHeld (now words) (now sets) (now queues) (now memory) (now wire) (now gathered) ⌝ }
+    ensures { λ a. ⌜ TurnsBench (rules.answerTo number (asked (take 8 (now (bytes .entry)))) (benchOf (now (words .entry)) (now (sets .entry)) (now (queues .entry)) (now (memory .entry)) (now (wire .entry)) (now (gathered .entry)) (now (output .entry)))) (now (memory .entry)) a (now (words .exit)) (now (sets .exit)) (now (queues .exit)) (now (memory .exit)) (now (wire .exit)) (now (gathered .exit)) (now (output .exit)) ⌝ }
+{
+    match part_started(number, bytes) {
+        Named::Known(part) => {
+            started(words, sets, queues, memory, part);
+            *gathered = 0;
+            Answer::Done(0)
+        }
+        Named::Unknown => answer(words, sets, queues, memory, wire, gathered, output, bytes),
+    }
 }
 
 // The record of this number is answered, and its line written to the front of `line`; `printed` is where the line ends.
@@ -90,10 +135,20 @@ fn serve(
     line: &mut [u8],
     printed: &mut usize,
 ) -> Answer
-    requires { ⌜ Held (now words) (now sets) (now queues) (now memory) (now wire) (now gathered) × (40 ≤ length (now line)) ⌝ }
-    ensures { λ a. ⌜ Serves number (take 8 (now (bytes .entry))) (holding (view (now (words .entry)) (now (sets .entry)) (now (queues .entry)) (now (memory .entry))) (take (now (gathered .entry)) (now (wire .entry))) (now (output .entry))) (now (line .entry)) a (now (words .exit)) (now (sets .exit)) (now (queues .exit)) (now (memory .exit)) (now (wire .exit)) (now (gathered .exit)) (now (output .exit)) (now (line .exit)) (now (printed .exit)) ⌝ }
+    requires { ⌜ BenchHeld (now words) (now sets) (now queues) (now memory) (now wire) (now gathered) × (40 ≤ length (now line)) ⌝ }
+    ensures { λ a. ⌜ Serves number (take 8 (now (bytes .entry))) (benchOf (now (words .entry)) (now (sets .entry)) (now (queues .entry)) (now (memory .entry)) (now (wire .entry)) (now (gathered .entry)) (now (output .entry))) (now (memory .entry)) (now (line .entry)) a (now (words .exit)) (now (sets .exit)) (now (queues .exit)) (now (memory .exit)) (now (wire .exit)) (now (gathered .exit)) (now (output .exit)) (now (line .exit)) (now (printed .exit)) ⌝ }
 {
-    let given = answer(words, sets, queues, memory, wire, gathered, output, bytes);
+    let given = turn(
+        words,
+        sets,
+        queues,
+        memory,
+        wire,
+        gathered,
+        output,
+        number,
+        bytes,
+    );
     let counter = records::counter_of(number);
     *printed = records::line_at(line, 0, counter, state::printed(given));
     given

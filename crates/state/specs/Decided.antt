@@ -1,12 +1,14 @@
 -- Whether a record is in order is decided: field by field, each by an equation between numbers or lists, a comparison, or a test of the rules.
 use mathlib.Core.Path.{refl, sym}
+use mathlib.Core.Logic.{_⊎_, inl, inr, ⊎-elim}
 use mathlib.Core.Bool.{Bool, true, false, true≢false}
 use mathlib.Core.List.{List, [], _∷_, _++_, List-discrete}
 use Prim.Native.Nat.{ℕ, suc, _+_, _*_, _-_, _/_, _%_, _^_, _<_}
 use native.Mathlib.Omega.{arith}
 use native.Mathlib.Decide.{ℕ-discrete, decLe}
-use lib.ListN.{length, replicate}
+use lib.ListN.{length, drop, replicate}
 use Rattle.rules.specs.Bits.{bit, flag, wordOf}
+use Rattle.rules.specs.Parts.{lan91c94, lan91c96, IsPart}
 use Rattle.rules.specs.Chip.{Layout, pageNumbers, freeFor}
 use Rattle.rules.specs.Tests.{allBelow, formed}
 use Rattle.lists.specs.Facts.{Decides}
@@ -17,7 +19,7 @@ use Rattle.queues.specs.Slots.{Slots}
 use Rattle.queues.specs.Parts.{slots}
 use Rattle.state.specs.View.{word, figures, queueIn, listsOf, viewOf, Fixed, Blank, Kept}
 use Rattle.state.specs.Promise.{Halves, QueuesIn, Small, PagesIn, SoundOf, ReadyOf}
-use Rattle.state.specs.Entry.{InOrderOf}
+use Rattle.state.specs.Entry.{sizeIn, ofPart, HoldsOf, WholeOf}
 
 -- What asks for P is decided by P first: where P does not hold it does not, and where P holds the rest decides.
 asks : {P Q : Type 0} → (Q → P) → Dec P → (P → Dec Q) → Dec Q
@@ -79,11 +81,19 @@ small-each (x ∷ xs) h = (h 0, small-each xs (λ i. h (suc i)))
 small? : (s : List ℕ) → Dec (Small s)
 small? s = asks (small-each s) (tested (allBelow (2 ^ 32) s) (below-decides (2 ^ 32) s)) (λ e. yes (λ i. each-at (λ x. x < 2 ^ 32) s i 0 e (omega arith)))
 
+part? : (n : ℕ) → Dec (IsPart n)
+part? n = either (ℕ-discrete n lan91c94) (ℕ-discrete n lan91c96)
+  where
+    either : {P Q : Type 0} → Dec P → Dec Q → Dec (P ⊎ Q)
+    either (yes p) q = yes (inl p)
+    either (no n) (yes q) = yes (inr q)
+    either (no n) (no m) = no (λ x. ⊎-elim n m x)
+
 pages? : (l : Layout) (c s : List ℕ) → Dec (PagesIn l c s)
 pages? l c s =
-    asks (λ x. x .many) (ℕ-discrete (length s) 24)
-    (λ a. asks (λ x. x .free) (ℕ-discrete (word c 3) (wordOf 24 (length (freeFor l (listsOf l s)))))
-    (λ b. asks (λ x. x .small) (small? s) (λ d. yes (record { many = a; free = b; small = d }))))
+    asks (λ x. x .part) (part? (length s))
+    (λ a. asks (λ x. x .free) (ℕ-discrete (word c 3) (wordOf (length s) (length (freeFor l (listsOf l s)))))
+    (λ b. asks (λ x. x .small) (small? s) (λ d. yes (record { part = a; free = b; small = d }))))
 
 -- All of it, and with the memory.
 sound? : (l : Layout) (w s q : List ℕ) → Dec (SoundOf l w s q)
@@ -95,7 +105,13 @@ sound? l w s q =
 pub ready? : (l : Layout) (w s q : List ℕ) → Dec (ReadyOf l w s q)
 ready? l w s q =
     let c = viewOf l w s q [] in
-    asks (λ x. x .sound) (sound? l w s q) (λ a. asks (λ x. x .well) (tested (formed 24 c) (formed-decides 24 c)) (λ b. yes (record { sound = a; well = b })))
+    asks (λ x. x .sound) (sound? l w s q) (λ a. asks (λ x. x .well) (tested (formed (length s) c) (formed-decides (length s) c)) (λ b. yes (record { sound = a; well = b })))
 
-pub decided : (l : Layout) (w s q mem : List ℕ) → Dec (InOrderOf l w s q mem)
-decided l w s q mem = asks (λ x. x .ready) (ready? l w s q) (λ a. asks (λ x. x .full) (ℕ-discrete (length mem) (256 * pageNumbers l 24)) (λ b. yes (record { ready = a; full = b })))
+-- Of a record with 24 places: its part's, and nothing behind them.
+pub holds? : (l : Layout) (w s q : List ℕ) → Dec (HoldsOf l w s q)
+holds? l w s q =
+    asks (λ x. x .ready) (ready? l w (ofPart w s) q)
+    (λ a. asks (λ x. x .rest) (List-discrete ℕ-discrete (drop (sizeIn w) s) (replicate (24 - sizeIn w) 0)) (λ b. yes (record { ready = a; rest = b })))
+
+pub decided : (l : Layout) (w s q mem : List ℕ) → Dec (WholeOf l w s q mem)
+decided l w s q mem = asks (λ x. x .holds) (holds? l w s q) (λ a. asks (λ x. x .full) (ℕ-discrete (length mem) (256 * pageNumbers l (sizeIn w))) (λ b. yes (record { holds = a; full = b })))

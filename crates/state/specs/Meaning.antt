@@ -3,15 +3,30 @@ use mathlib.Core.Path.{_≡_}
 use mathlib.Core.Bool.{Bool, true, false}
 use Prim.Native.Nat.{ℕ, _/_, _%_}
 use Rattle.rules.specs.Answers.{Reply, refusal, refusalWith}
+use Rattle.rules.specs.Parts.{lan91c94, lan91c96}
 use Rattle.rules.specs.Registers as rules
 use Rattle.state.specs.declared.Width.{Width}
 use Rattle.state.specs.declared.Width.the-variants as width
+use Rattle.state.specs.declared.part.Part.{Part}
+use Rattle.state.specs.declared.part.Part.the-variants as part
+use Rattle.state.specs.declared.part.Named.{Named}
+use Rattle.state.specs.declared.part.Named.the-variants as named
 use Rattle.state.specs.declared.Answer.{Answer}
 use Rattle.state.specs.declared.Answer.the-variants.{Done, Misplaced, NotModelled, ReadOnly, Reserved, NotAllocated, StillQueued, RxEmpty, AgainstRead, OddPointer, PastPages, OutsideLimits, NothingToSend, OddCount, CompletionFull, ShortOutput, Damaged, CutShort, ShortCount, LongCount}
 
 abbrev pub widthOf : Width → rules.Width
 widthOf width.Byte = rules.byte
 widthOf width.Word = rules.word
+
+-- how many packets the part has (document 02, W9)
+abbrev pub packetsOf : Part → ℕ
+packetsOf part.Lan91c94 = lan91c94
+packetsOf part.Lan91c96 = lan91c96
+
+-- how many packets the part has that is named, 0 where none is
+abbrev pub packetsNamed : Named → ℕ
+packetsNamed (named.Known p) = packetsOf p
+packetsNamed named.Unknown = 0
 
 -- document 01's number and value of an answer; 13, 18 and 19 have the byte count as their value (document 02, W2)
 abbrev pub replyOf : Answer → Reply

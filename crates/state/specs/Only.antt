@@ -21,14 +21,18 @@ use Rattle.queues.specs.Slots.{Slots}
 use Rattle.queues.specs.Parts.{slots, part-long}
 use Rattle.state.specs.declared.Answer.{Answer}
 use Rattle.state.specs.declared.Answer.the-variants.{Done, Misplaced, NotModelled, ReadOnly, Reserved, NotAllocated, StillQueued, RxEmpty, AgainstRead, OddPointer, PastPages, OutsideLimits, NothingToSend, OddCount, CompletionFull, ShortOutput, Damaged, CutShort, ShortCount, LongCount}
-use Rattle.state.specs.Meaning.{replyOf}
+use Rattle.state.specs.declared.part.Part.the-variants as part
+use Rattle.state.specs.declared.part.Named.{Named}
+use Rattle.state.specs.declared.part.Named.the-variants as named
+use Rattle.state.specs.Meaning.{packetsNamed, replyOf}
 use Rattle.state.specs.View.{word, registersIn, figures, queueIn, stripsFrom, listsOf, poolOf, viewOf, FixedIn, BlankIn, Kept}
 use Rattle.state.specs.Written.{Written, written-out}
 use Rattle.state.specs.Links.{two-bits}
 use Rattle.state.specs.Promise.{QueuesIn, Small, SoundOf, ReadyOf, MakesOf, Sets, Does}
 use Rattle.state.specs.Counted.{full-count}
-use Rattle.state.specs.Entry.{InOrderOf, RightOf, AnswersOf, StartedOf, LinesOf}
-use Rattle.state.specs.Decided.{ready?, decided}
+use Rattle.state.specs.Entry.{RightOf, sizeIn, ofPart, recordView, HoldsOf, WholeOf, LeavesOf, AnswersOf, StartedOf, LinesOf}
+use Rattle.state.specs.Places.{record-cut}
+use Rattle.state.specs.Decided.{holds?, decided}
 
 -- The words of registers, and of figures beside them.
 abbrev wordsWith : rules.Registers → List ℕ → List ℕ
@@ -73,7 +77,7 @@ counts p =
     length (p .rx)
     ∷ length (p .tx)
     ∷ length (p .completion)
-    ∷ wordOf 24 (length (rules.freeFor (p .layout) (p .pages)))
+    ∷ wordOf (length (p .pages)) (length (rules.freeFor (p .layout) (p .pages)))
     ∷ (setOf (p .rx) % 65536)
     ∷ (setOf (p .rx) / 65536)
     ∷ (setOf (p .tx) % 65536)
@@ -223,6 +227,18 @@ answer-back (LongCount v) = refl
 pub one-answer : (a b : Answer) → replyOf a ≡ replyOf b → a ≡ b
 one-answer a b e = sym (answer-back a) ∙ ap answerOf e ∙ answer-back b
 
+-- What a byte names is known from its number of packets.
+pub named-once : (x y : Named) → packetsNamed x ≡ packetsNamed y → x ≡ y
+named-once (named.Known part.Lan91c94) (named.Known part.Lan91c94) e = refl
+named-once (named.Known part.Lan91c96) (named.Known part.Lan91c96) e = refl
+named-once named.Unknown named.Unknown e = refl
+named-once (named.Known part.Lan91c94) (named.Known part.Lan91c96) e = absurd (omega (arith, e))
+named-once (named.Known part.Lan91c94) named.Unknown e = absurd (omega (arith, e))
+named-once (named.Known part.Lan91c96) (named.Known part.Lan91c94) e = absurd (omega (arith, e))
+named-once (named.Known part.Lan91c96) named.Unknown e = absurd (omega (arith, e))
+named-once named.Unknown (named.Known part.Lan91c94) e = absurd (omega (arith, e))
+named-once named.Unknown (named.Known part.Lan91c96) e = absurd (omega (arith, e))
+
 -- Of a step below a public entry there is one result too: of the effect e, of the turn t, of a step that looks at the registers alone, of a change of the registers.
 module _ {l : rules.Layout} {a a′ : Answer} {w s q mem w′ s′ q′ mem′ : List ℕ} where
   pub makes-once : {e : Effect} → MakesOf l e a w s q mem → MakesOf l e a′ w′ s′ q′ mem′ → (a ≡ a′) × (w ≡ w′) × (s ≡ s′) × (q ≡ q′) × (mem ≡ mem′)
@@ -241,27 +257,39 @@ does-once {a = a} {b = b} x y =
 pub sets-once : {f : rules.Registers → rules.Registers} {w w₁ w₂ : List ℕ} → Sets f w w₁ → Sets f w w₂ → w₁ ≡ w₂
 sets-once x y = words-once (x .kept) (y .kept) (x .regs ∙ sym (y .regs)) (x .still ∙ sym (y .still))
 
+-- A record in order is known from the chip that it stands for, its empty places too.
+module _ {l : rules.Layout} {w s q mem w′ s′ q′ mem′ : List ℕ} where
+  pub one-record : HoldsOf l w s q → HoldsOf l w′ s′ q′ → recordView l w s q mem ≡ recordView l w′ s′ q′ mem′ → (w ≡ w′) × (s ≡ s′) × (q ≡ q′) × (mem ≡ mem′)
+  one-record h k e =
+      let x = one-state (h .ready .sound) (k .ready .sound) e in
+      (x .0, record-cut h ∙ ap₂ (λ (v u : List ℕ). u ++ replicate (24 - sizeIn v) 0) (x .0) (x .1) ∙ sym (record-cut k), x .2, x .3)
+
+  pub leaves-once : {t : Turn} {a a′ : Answer} {out out′ : List ℕ} → LeavesOf l t a w s q mem out → LeavesOf l t a′ w′ s′ q′ mem′ out′ → (a ≡ a′) × (w ≡ w′) × (s ≡ s′) × (q ≡ q′) × (mem ≡ mem′) × (out ≡ out′)
+  leaves-once {a = a} {a′ = a′} x y =
+      let e = one-record (x .whole .holds) (y .whole .holds) (x .chip ∙ sym (y .chip)) in
+      (one-answer a a′ (x .reply ∙ sym (y .reply)), e .0, e .1, e .2, e .3, x .output ∙ sym (y .output))
+
 -- Only one result of a public entry: answer, words, sets (or counts), queues, memory and output.
 module _ {l : rules.Layout} {a a′ : Answer} {w₁ s₁ q₁ w₂ s₂ q₂ : List ℕ} where
   pub only : (i : Input) (w s q mem : List ℕ) {mem₁ out₁ mem₂ out₂ : List ℕ} → AnswersOf l i w s q mem a w₁ s₁ q₁ mem₁ out₁ → AnswersOf l i w s q mem a′ w₂ s₂ q₂ mem₂ out₂
       → (a ≡ a′) × (w₁ ≡ w₂) × (s₁ ≡ s₂) × (q₁ ≡ q₂) × (mem₁ ≡ mem₂) × (out₁ ≡ out₂)
   only i w s q mem {mem₁} {out₁} {mem₂} {out₂} x y = go (decided l w s q mem)
     where
-      go : Dec (InOrderOf l w s q mem) → (a ≡ a′) × (w₁ ≡ w₂) × (s₁ ≡ s₂) × (q₁ ≡ q₂) × (mem₁ ≡ mem₂) × (out₁ ≡ out₂)
-      go (yes o) = right-once (x .done o) (y .done o)
+      go : Dec (WholeOf l w s q mem) → (a ≡ a′) × (w₁ ≡ w₂) × (s₁ ≡ s₂) × (q₁ ≡ q₂) × (mem₁ ≡ mem₂) × (out₁ ≡ out₂)
+      go (yes o) = leaves-once (x .done o) (y .done o)
       go (no n) =
           let u = x .broken n in
           let v = y .broken n in
           (u .answer ∙ sym (v .answer), u .words ∙ sym (v .words), u .pages ∙ sym (v .pages), u .queues ∙ sym (v .queues), u .memory ∙ sym (v .memory), u .output ∙ sym (v .output))
 
-  pub started-once : StartedOf l a w₁ s₁ q₁ → StartedOf l a′ w₂ s₂ q₂ → (a ≡ a′) × (w₁ ≡ w₂) × (s₁ ≡ s₂) × (q₁ ≡ q₂)
+  pub started-once : {n : ℕ} → StartedOf l n a w₁ s₁ q₁ → StartedOf l n a′ w₂ s₂ q₂ → (a ≡ a′) × (w₁ ≡ w₂) × (s₁ ≡ s₂) × (q₁ ≡ q₂)
   started-once x y =
-      let e = one-state (x .ready .ready .sound) (y .ready .ready .sound) (x .chip ∙ sym (y .chip)) in
+      let e = one-record (x .whole .holds) (y .whole .holds) (x .chip ∙ sym (y .chip)) in
       (x .answer ∙ sym (y .answer), e .0, e .1, e .2)
 
 pub line-once : (l : rules.Layout) (w s q : List ℕ) {a b : Bool} → LinesOf l w s q a → LinesOf l w s q b → a ≡ b
-line-once l w s q {a} {b} x y = go (ready? l w s q)
+line-once l w s q {a} {b} x y = go (holds? l w s q)
   where
-    go : Dec (ReadyOf l w s q) → a ≡ b
+    go : Dec (HoldsOf l w s q) → a ≡ b
     go (yes o) = x .up o [] ∙ sym (y .up o [])
     go (no n) = x .down n ∙ sym (y .down n)

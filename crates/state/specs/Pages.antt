@@ -77,9 +77,9 @@ unfolding total
 strips-total k [] = refl
 strips-total k (m ∷ ms) = omega (arith, length-up (8 * k) m, strips-total (suc k) ms)
 
--- Of page sets the free pages are those below 24 that no set has.
-pub free-sets : (s : List ℕ) → length s ≡ 24 → freeFor paged (map pagesOf s) ≡ freeBelow 24 (map pagesOf s)
-free-sets s long = ap (λ (n : ℕ). freeBelow n (map pagesOf s)) (lists-length s ∙ long)
+-- Of page sets the free pages are those that no set has, of as many pages as there are packets.
+pub free-sets : (s : List ℕ) → freeFor paged (map pagesOf s) ≡ freeBelow (length s) (map pagesOf s)
+free-sets s = ap (λ (n : ℕ). freeBelow n (map pagesOf s)) (lists-length s)
 
-pub sets-free : {c s : List ℕ} → SetsIn c s → word c 3 ≡ wordOf 24 (length (freeBelow 24 (map pagesOf s)))
-sets-free {s = s} h = h .free ∙ ap (λ (l : List ℕ). wordOf 24 (length l)) (free-sets s (h .many))
+pub sets-free : {c s : List ℕ} → SetsIn c s → word c 3 ≡ wordOf (length s) (length (freeBelow (length s) (map pagesOf s)))
+sets-free {s = s} h = h .free ∙ ap (λ (l : List ℕ). wordOf (length s) (length l)) (free-sets s)

@@ -4,6 +4,7 @@ use mathlib.Core.List.{List}
 use Prim.Native.Nat.{ℕ, _/_, _%_, _^_, _<_}
 use lib.ListN.{length, getD}
 use Rattle.rules.specs.Bits.{wordOf}
+use Rattle.rules.specs.Parts.{IsPart}
 use Rattle.rules.specs.Chip.{Registers, Layout, paged, Chip, freeFor}
 use Rattle.rules.specs.Answers.{Effect, did}
 use Rattle.rules.specs.Fields.{inRegisters}
@@ -34,10 +35,10 @@ pub record QueuesIn (c q : List ℕ) : Type 0 where
 abbrev pub Small : List ℕ → Type 0
 Small s = (i : ℕ) → getD s i 0 < 2 ^ 32
 
--- 24 numbers for the packets, and MIR has 24 and, above it, how many pages are free by them
+-- as many numbers as a part has packets; MIR has so many and, above it, how many pages are free by them
 pub record PagesIn (l : Layout) (c s : List ℕ) : Type 0 where
-  pub many : length s ≡ 24
-  pub free : word c 3 ≡ wordOf 24 (length (freeFor l (listsOf l s)))
+  pub part : IsPart (length s)
+  pub free : word c 3 ≡ wordOf (length s) (length (freeFor l (listsOf l s)))
   pub small : Small s
 
 -- the state is laid out as it must be: one state for each chip
@@ -49,7 +50,7 @@ pub record SoundOf (l : Layout) (w s q : List ℕ) : Type 0 where
 -- and it stands for a well-formed chip, whatever its memory
 pub record ReadyOf (l : Layout) (w s q : List ℕ) : Type 0 where
   pub sound : SoundOf l w s q
-  pub well : Formed 24 (registersIn w) (poolOf l (figures w) s q)
+  pub well : Formed (length s) (registersIn w) (poolOf l (figures w) s q)
 
 -- the answer a, and the state after it, are the effect e of the rules
 pub record MakesOf (l : Layout) (e : Effect) (a : Answer) (w s q mem : List ℕ) : Type 0 where

@@ -1,4 +1,4 @@
--- The restated definition says of the record's numbers what document 01 says of the lists: `RecordFormed` holds exactly where `Ready` does. By its parts: a set and its
+-- The restated definition says of the record's numbers what document 01 says of the lists: `RecordFormed` holds exactly where `Holds` does. By its parts: a set and its
 -- page list (`sets-restated`), a queue's bytes and its entries (`queues-as-lists`, `queues-as-bytes`), the words (`words-restated`).
 use mathlib.Core.Path.{_≡_, refl, ap, ap₂, sym, _∙_, subst}
 use mathlib.Core.Bool.{true, false, true≢false}
@@ -8,16 +8,19 @@ use Prim.Native.Nat.{ℕ, zero, suc, _+_, _-_, _*_, _/_, _%_, _^_, _≤_, _<_}
 use native.Mathlib.Omega.{arith}
 use native.Mathlib.Nat.{mod-lt, div-one, div-eq-of-lt, pow-suc}
 use borrow.Author.Tests.{eqb-true, eq-eqb}
+use lib.Count.{ones}
 use lib.Dec.{eqb}
 use lib.ListN.{length, take, drop, getD, replicate, length-drop, length-replicate, getD-replicate, take-append-drop}
 use lib.Pow.{pow-mono, shr-shr}
 use lib.Seq.{length-take-le, getD-take, getD-drop, getD-append-add, ext-getD}
 use Rattle.rules.specs.Bits.{bit, flag, wordOf}
 use Rattle.rules.specs.Lists.{member, some?, total}
+use Rattle.rules.specs.Parts.{IsPart}
 use Rattle.rules.specs.Chip.{paged, freeFor}
 use Rattle.rules.specs.WellFormed.{Distinct, GoodPages, GoodQueues, GoodNumbers, GoodRequest}
 use Rattle.lists.specs.Facts.{if-not, member-at}
 use Rattle.lists.specs.Each.{Each, each-member, member-each}
+use Rattle.wellformed.specs.Parts.{part-few}
 use Rattle.wellformed.specs.Layouts.{free-total}
 use Rattle.wellformed.specs.Pool.{has-small}
 use Rattle.sets.specs.Views.{pagesOf}
@@ -29,8 +32,10 @@ use Rattle.sets.specs.Members.{setOf, set-members, set-small}
 use Rattle.queues.specs.Slots.{Slots}
 use Rattle.queues.specs.Parts.{slots, part-long}
 use Rattle.state.specs.View.{word, registersIn, queueIn, Latches, Kept}
-use Rattle.state.specs.Promise.{Halves, Small, Ready}
+use Rattle.state.specs.Promise.{Halves, Small}
 use Rattle.state.specs.Counted.{whole, halves}
+use Rattle.state.specs.Entry.{sizeIn, ofPart, Holds}
+use Rattle.state.specs.Places.{places-told, record-long, record-cut, zeros-at, padded-at}
 use Rattle.state.specs.WellFormed.{SetsFormed, QueuesFormed, NumbersFormed, RequestFormed, FixedBytes, FiguresFormed, RecordFormed, slotAt, pagesIn}
 
 -- The latches: no bit but 2 and 4.
@@ -166,13 +171,17 @@ record SlotsIn (a b c : ℕ) (q : List ℕ) : Type 0 where
   tx : Slots (slots 1 q) b (queueIn 1 b q)
   completion : Slots (slots 2 q) c (queueIn 2 c q)
 
-pub sets-restated : (s : List ℕ) → SetsFormed s ↔ ((length s ≡ 24) × Small s × GoodPages 24 (map pagesOf s))
-sets-restated s = (
-  λ f. let fits : Small s = λ i. omega (arith, f .within i) in (f .count, fits, as-lists 24 s fits (record { within = f .within; atMost = f .atMost; once = f .once })),
-  λ g. let h = as-sets 24 s (g .1) (g .2) in record { count = g .0; once = h .once; within = h .within; atMost = h .atMost },
+-- the set of packet i
+abbrev at : List ℕ → ℕ → ℕ
+at s i = getD s i 0
+
+pub sets-restated : (n : ℕ) (s : List ℕ) → n ≤ 24 → SetsFormed n (at s) ↔ (Small s × GoodPages n (map pagesOf s))
+sets-restated n s few = (
+  λ f. let fits : Small s = λ i. let m : 2 ^ n ≤ 2 ^ 24 = pow-mono few in omega (arith, f .within i, m) in (fits, as-lists n s fits (record { within = f .within; atMost = f .atMost; once = f .once })),
+  λ g. let h = as-sets n s (g .0) (g .1) in record { once = h .once; within = h .within; atMost = h .atMost },
 )
 
-module _ (s : List ℕ) (fits : Small s) where
+module _ (n : ℕ) (few : n ≤ 24) (s : List ℕ) (fits : Small s) where
   -- allocated: the set is not 0
   has : (k : ℕ) → 0 < getD s k 0 → some? (getD (map pagesOf s) k []) ≡ true
   has k h = some-at s k (fits k) h
@@ -186,15 +195,15 @@ module _ (s : List ℕ) (fits : Small s) where
 
   module _ (rx tx completion : ℕ) (q : List ℕ) where
     abbrev Queues : Type 0
-    Queues = SlotsIn rx tx completion q × GoodQueues 24 (map pagesOf s) (queueIn 0 rx q) (queueIn 1 tx q) (queueIn 2 completion q)
+    Queues = SlotsIn rx tx completion q × GoodQueues n (map pagesOf s) (queueIn 0 rx q) (queueIn 1 tx q) (queueIn 2 completion q)
 
-    queues-as-lists : QueuesFormed rx tx completion s q → Queues
+    queues-as-lists : QueuesFormed n rx tx completion (at s) q → Queues
     queues-as-lists f = (
       record {
         long = f .long;
         rx = blank 0 rx q (f .long) (omega arith) (f .rxFits) .1 (f .rxBlank);
         tx = blank 1 tx q (f .long) (omega arith) (f .txFits) .1 (f .txBlank);
-        completion = blank 2 completion q (f .long) (omega arith) (f .completionFew) .1 (f .completionBlank);
+        completion = blank 2 completion q (f .long) (omega arith) fits24 .1 (f .completionBlank);
       },
       record {
         rxAllocated = inRx (λ k. some? (getD (map pagesOf s) k []) ≡ true) (λ i h. has _ (f .rxAllocated i h));
@@ -203,18 +212,21 @@ module _ (s : List ℕ) (fits : Small s) where
         txDistinct = apart 1 tx q (f .long) (omega arith) (f .txFits) .1 (f .txDistinct);
         notBoth = inRx (λ k. member k (queueIn 1 tx q) ≡ false)
             (λ i h. if-not (member (slotAt 0 q i) (queueIn 1 tx q)) (λ m. inTx (λ k. slotAt 0 q i ≡ k → ⊥) (λ j g. f .notBoth i j h g) (slotAt 0 q i) m refl));
-        completionFew = omega (arith, many 2 completion q (f .long) (omega arith) (f .completionFew), f .completionFew);
-        completionNumbers = all-entries 2 completion q (f .long) (omega arith) (f .completionFew) (λ k. k < 24) (f .completionNumbers);
+        completionFew = omega (arith, many 2 completion q (f .long) (omega arith) fits24, f .completionFew);
+        completionNumbers = all-entries 2 completion q (f .long) (omega arith) fits24 (λ k. k < n) (f .completionNumbers);
       },
     )
       where
+        fits24 : completion ≤ 24
+        fits24 = omega (arith, f .completionFew)
+
         inRx : (P : ℕ → Type 0) → ((i : ℕ) → i < rx → P (slotAt 0 q i)) → (k : ℕ) → member k (queueIn 0 rx q) ≡ true → P k
         inRx = all-entries 0 rx q (f .long) (omega arith) (f .rxFits)
 
         inTx : (P : ℕ → Type 0) → ((i : ℕ) → i < tx → P (slotAt 24 q i)) → (k : ℕ) → member k (queueIn 1 tx q) ≡ true → P k
         inTx = all-entries 1 tx q (f .long) (omega arith) (f .txFits)
 
-    queues-as-bytes : Queues → QueuesFormed rx tx completion s q
+    queues-as-bytes : Queues → QueuesFormed n rx tx completion (at s) q
     queues-as-bytes (o, g) = record {
       long = o .long;
       rxFits = a;
@@ -224,7 +236,7 @@ module _ (s : List ℕ) (fits : Small s) where
       rxDistinct = apart 0 rx q (o .long) (omega arith) a .0 (g .rxDistinct);
       txDistinct = apart 1 tx q (o .long) (omega arith) b .0 (g .txDistinct);
       notBoth = λ i j h l e. true≢false (sym (inTx j l) ∙ ap (λ (k : ℕ). member k (queueIn 1 tx q)) (sym e) ∙ g .notBoth _ (inRx i h));
-      completionFew = c;
+      completionFew = omega (arith, many 2 completion q (o .long) (omega arith) c, g .completionFew);
       completionNumbers = λ i h. g .completionNumbers _ (there 2 completion q (o .long) (omega arith) c i h);
       rxBlank = blank 0 rx q (o .long) (omega arith) a .0 (o .rx);
       txBlank = blank 1 tx q (o .long) (omega arith) b .0 (o .tx);
@@ -263,38 +275,38 @@ unfolding total
 pages-counted [] fits = refl
 pages-counted (x ∷ xs) fits = omega (arith, pages-count x (fits 0), pages-counted xs (λ i. fits (suc i)))
 
--- An allocated packet has a set, so its number is below 24.
-small-entries : (s : List ℕ) (l : List ℕ) → length s ≡ 24 → ((k : ℕ) → member k l ≡ true → some? (getD (map pagesOf s) k []) ≡ true) → (k : ℕ) → member k l ≡ true → k < 24
+-- An allocated packet has a set, so its number is below the part's.
+small-entries : (s : List ℕ) (l : List ℕ) → length s ≤ 24 → ((k : ℕ) → member k l ≡ true → some? (getD (map pagesOf s) k []) ≡ true) → (k : ℕ) → member k l ≡ true → k < 24
 small-entries s l long h k m = omega (arith, has-small (map pagesOf s) k (h k m), lists-length s, long)
 
-module _ (w s q : List ℕ) (typed : (i : ℕ) → word w i < 65536) (fits : Small s) (long : length s ≡ 24) (pages : GoodPages 24 (map pagesOf s))
-    (queues : GoodQueues 24 (map pagesOf s) (queueIn 0 (word w 6) q) (queueIn 1 (word w 8) q) (queueIn 2 (word w 9) q)) where
-  free-counted : length (freeFor paged (map pagesOf s)) + pagesIn s ≡ 24
-  free-counted = omega (arith, free-total paged 24 (map pagesOf s) (record { count = lists-length s ∙ long; pages = pages; laid = tt }), pages-counted s fits)
+-- The figures of the part with the sets s, as many as it has packets.
+module _ (w s q : List ℕ) (typed : (i : ℕ) → word w i < 65536) (fits : Small s) (few : length s ≤ 24) (size : sizeIn w ≡ length s) (pages : GoodPages (length s) (map pagesOf s))
+    (queues : GoodQueues (length s) (map pagesOf s) (queueIn 0 (word w 6) q) (queueIn 1 (word w 8) q) (queueIn 2 (word w 9) q)) where
+  free-counted : length (freeFor paged (map pagesOf s)) + pagesIn s ≡ length s
+  free-counted = omega (arith, free-total paged (length s) (map pagesOf s) (record { count = lists-length s; pages = pages; laid = tt }), pages-counted s fits)
 
   -- the free count, and both queues' bits
-  figures-as-count : FiguresFormed w s q
-      → (word w 4 ≡ wordOf 24 (length (freeFor paged (map pagesOf s)))) × Halves (word w 28) (word w 29) (setOf (queueIn 0 (word w 6) q)) × Halves (word w 30) (word w 31) (setOf (queueIn 1 (word w 8) q))
+  figures-as-count : FiguresFormed (length s) w s q
+      → (word w 4 ≡ wordOf (length s) (length (freeFor paged (map pagesOf s)))) × Halves (word w 28) (word w 29) (setOf (queueIn 0 (word w 6) q)) × Halves (word w 30) (word w 31) (setOf (queueIn 1 (word w 8) q))
   unfolding wordOf
   figures-as-count f = (
-    omega (arith, f .size, f .free, free-counted),
-    bits-as-set _ _ _ (queues .rxDistinct) (typed 28) (typed 29) (small-entries s _ long (queues .rxAllocated)) (f .inRx),
-    bits-as-set _ _ _ (queues .txDistinct) (typed 30) (typed 31) (small-entries s _ long (queues .txAllocated)) (f .inTx),
+    omega (arith, size, f .free, free-counted),
+    bits-as-set _ _ _ (queues .rxDistinct) (typed 28) (typed 29) (small-entries s _ few (queues .rxAllocated)) (f .inRx),
+    bits-as-set _ _ _ (queues .txDistinct) (typed 30) (typed 31) (small-entries s _ few (queues .txAllocated)) (f .inTx),
   )
 
-  count-as-figures : word w 4 ≡ wordOf 24 (length (freeFor paged (map pagesOf s))) → Halves (word w 28) (word w 29) (setOf (queueIn 0 (word w 6) q)) → Halves (word w 30) (word w 31) (setOf (queueIn 1 (word w 8) q))
-      → FiguresFormed w s q
+  count-as-figures : word w 4 ≡ wordOf (length s) (length (freeFor paged (map pagesOf s))) → Halves (word w 28) (word w 29) (setOf (queueIn 0 (word w 6) q)) → Halves (word w 30) (word w 31) (setOf (queueIn 1 (word w 8) q))
+      → FiguresFormed (length s) w s q
   unfolding wordOf
   count-as-figures e rx tx = record {
-    size = omega (arith, e);
-    free = omega (arith, e, free-counted);
+    free = omega (arith, e, free-counted, few);
     inRx = set-as-bits _ _ _ (queues .rxDistinct) rx;
     inTx = set-as-bits _ _ _ (queues .txDistinct) tx;
   }
 
 -- The words.
-pub words-restated : (w : List ℕ) → (FixedBytes w × NumbersFormed (word w 7) (word w 17)) ↔ (Kept w × GoodNumbers 24 (registersIn w .numbers))
-words-restated w = (
+pub words-restated : (n : ℕ) (w : List ℕ) → (FixedBytes w × NumbersFormed n (word w 7) (word w 17)) ↔ (Kept w × GoodNumbers n (registersIn w .numbers))
+words-restated n w = (
   λ f. (
     record { whole = f .0 .whole; fixed = record { bankHigh = omega (arith, f .0 .bankHigh, f .1 .bankSmall); reservedHigh = f .0 .reservedHigh; latched = latches (word w 13) (f .0 .latched); linkBits = f .0 .linkBits; maskLow = f .0 .maskLow }; blank = f .0 .blank },
     record { bankSmall = f .1 .bankSmall; packetSmall = f .1 .packetSmall; resultGood = f .1 .resultGood },
@@ -306,38 +318,96 @@ words-restated w = (
 )
 
 -- The request, beside a MIR that counts the free pages.
-pub request-restated : (w : List ℕ) (n : ℕ) → word w 4 ≡ wordOf 24 n → RequestFormed (word w 4) (word w 17) (word w 23) ↔ GoodRequest n (registersIn w .numbers)
+pub request-restated : (w : List ℕ) (n m : ℕ) → n ≤ 24 → word w 4 ≡ wordOf n m → RequestFormed (word w 4) (word w 17) (word w 23) ↔ GoodRequest m (registersIn w .numbers)
 unfolding wordOf
-request-restated w n e = (
+request-restated w n m few e = (
   λ f. ⊎-elim (λ none. inl none) (λ p. inr (record { few = p .0; short = omega (arith, e, p .1); unanswered = p .2 })) f,
   λ g. ⊎-elim (λ none. inl none) (λ p. inr (p .few, omega (arith, e, p .short), p .unanswered)) g,
 )
 
--- So the record is as it says here exactly where the public entries take it for a sound one of a well-formed chip: of words that are u16 numbers.
-pub restated : (w s q : List ℕ) → ((i : ℕ) → word w i < 65536) → RecordFormed w s q ↔ Ready w s q
-restated w s q typed = (
-  λ f.
-      let words = words-restated w .0 (f .fixed, f .numbers) in
-      let pages = sets-restated s .0 (f .sets) in
-      let queues = queues-as-lists s (pages .1) (word w 6) (word w 8) (word w 9) q (f .queues) in
-      let figures = figures-as-count w s q typed (pages .1) (pages .0) (pages .2) (queues .1) (f .figures) in
-      record {
-        sound = record {
-          kept = words .0;
-          queues = record { long = queues .0 .long; rx = queues .0 .rx; tx = queues .0 .tx; completion = queues .0 .completion; inRx = figures .1; inTx = figures .2 };
-          sets = record { many = pages .0; free = figures .0; small = pages .1 };
-        };
-        well = record { count = lists-length s ∙ pages .0; pages = pages .2; laid = tt; numbers = words .1; queues = queues .1; request = request-restated w _ (figures .0) .0 (f .request) };
-      },
-  λ r.
-      let words = words-restated w .1 (r .sound .kept, r .well .numbers) in
-      let sets = r .sound .sets in
-      record {
-        fixed = words .0;
-        numbers = words .1;
-        sets = sets-restated s .1 (sets .many, sets .small, r .well .pages);
-        queues = queues-as-bytes s (sets .small) (word w 6) (word w 8) (word w 9) q (record { long = r .sound .queues .long; rx = r .sound .queues .rx; tx = r .sound .queues .tx; completion = r .sound .queues .completion }, r .well .queues);
-        figures = count-as-figures w s q typed (sets .small) (sets .many) (r .well .pages) (r .well .queues) (sets .free) (r .sound .queues .inRx) (r .sound .queues .inTx);
-        request = request-restated w _ (sets .free) .1 (r .well .request);
-      },
-)
+-- The places of no packet are empty.
+rest-empty : (s : List ℕ) (n : ℕ) → length s ≡ 24 → ((i : ℕ) → n ≤ i → getD s i 0 ≡ 0) → drop n s ≡ replicate (24 - n) 0
+rest-empty s n long h =
+    ext-getD 0 (drop n s) (replicate (24 - n) 0) (length-drop n s ∙ ap (λ (m : ℕ). m - n) long ∙ sym (length-replicate (24 - n) 0))
+    (λ i l. let g : i < 24 - n = omega (arith, l, length-drop n s, long) in getD-drop n s i 0 ∙ h (n + i) (omega arith) ∙ sym (getD-replicate (24 - n) i 0 0 g))
+
+empty-rest : (s : List ℕ) (n : ℕ) → drop n s ≡ replicate (24 - n) 0 → (i : ℕ) → n ≤ i → getD s i 0 ≡ 0
+empty-rest s n e i h =
+    let f : n + (i - n) ≡ i = omega arith in
+    ap (λ (k : ℕ). getD s k 0) (sym f) ∙ sym (getD-drop n s (i - n) 0) ∙ ap (λ (r : List ℕ). getD r (i - n) 0) e ∙ zeros-at (24 - n) (i - n)
+
+-- Empty places have no pages.
+none-in : (m : ℕ) → pagesIn (replicate m 0) ≡ 0
+unfolding ones
+none-in zero = refl
+none-in (suc m) = let z : ones 0 ≡ 0 = refl in omega (arith, z, none-in m)
+
+padded-pages : (s : List ℕ) (m : ℕ) → pagesIn (s ++ replicate m 0) ≡ pagesIn s
+padded-pages [] m = none-in m
+padded-pages (x ∷ s) m = ap (λ (y : ℕ). ones x + y) (padded-pages s m)
+
+-- So the record is as it says here exactly where the public entries take it for one of a well-formed chip: of words that are u16 numbers.
+pub restated : (w s q : List ℕ) → ((i : ℕ) → word w i < 65536) → RecordFormed w s q ↔ Holds w s q
+restated w s q typed = (formed-holds, holds-formed)
+  where
+    formed-holds : RecordFormed w s q → Holds w s q
+    formed-holds f =
+        let n = sizeIn w in
+        let u = ofPart w s in
+        let rest = rest-empty s n (f .places) (f .empty) in
+        let many : length u ≡ n = length-take-le n s (omega (arith, f .places, part-few (f .part))) in
+        let cut : s ≡ u ++ replicate (24 - n) 0 = sym (take-append-drop n s) ∙ ap (λ (r : List ℕ). u ++ r) rest in
+        let same : at s ≡ at u = λ j i. (ap (λ (l : List ℕ). getD l i 0) cut ∙ padded-at u (24 - n) i) j in
+        let few : length u ≤ 24 = omega (arith, many, part-few (f .part)) in
+        let onPart : (P : ℕ → Type 0) → P n → P (length u) = λ P. subst P (sym many) in
+        let words = words-restated n w .0 (f .fixed, f .numbers) in
+        let pages = sets-restated n u (part-few (f .part)) .0 (subst (SetsFormed n) same (f .sets)) in
+        let queues = queues-as-lists n (part-few (f .part)) u (pages .0) (word w 6) (word w 8) (word w 9) q (subst (λ (a : ℕ → ℕ). QueuesFormed n (word w 6) (word w 8) (word w 9) a q) same (f .queues)) in
+        let good = onPart (λ m. GoodPages m (map pagesOf u)) (pages .1) in
+        let queued = onPart (λ m. GoodQueues m (map pagesOf u) (queueIn 0 (word w 6) q) (queueIn 1 (word w 8) q) (queueIn 2 (word w 9) q)) (queues .1) in
+        let kept : FiguresFormed n w u q = record { free = ap (λ (x : ℕ). word w 4 / 256 + x) (sym (ap pagesIn cut ∙ padded-pages u (24 - n))) ∙ f .figures .free; inRx = f .figures .inRx; inTx = f .figures .inTx } in
+        let figures = figures-as-count w u q typed (pages .0) few (sym many) good queued (onPart (λ m. FiguresFormed m w u q) kept) in
+        record {
+          ready = record {
+            sound = record {
+              kept = words .0;
+              queues = record { long = queues .0 .long; rx = queues .0 .rx; tx = queues .0 .tx; completion = queues .0 .completion; inRx = figures .1; inTx = figures .2 };
+              sets = record { part = onPart IsPart (f .part); free = figures .0; small = pages .0 };
+            };
+            well = record {
+              count = lists-length u;
+              pages = good;
+              laid = tt;
+              numbers = onPart (λ m. GoodNumbers m (registersIn w .numbers)) (words .1);
+              queues = queued;
+              request = request-restated w (length u) _ few (figures .0) .0 (f .request);
+            };
+          };
+          rest = rest;
+        }
+
+    holds-formed : Holds w s q → RecordFormed w s q
+    holds-formed h =
+        let n = sizeIn w in
+        let u = ofPart w s in
+        let r = h .ready in
+        let sets = r .sound .sets in
+        let many = places-told h in
+        let few : length u ≤ 24 = part-few (sets .part) in
+        let same : at u ≡ at s = λ j i. sym (ap (λ (l : List ℕ). getD l i 0) (record-cut h) ∙ padded-at u (24 - n) i) j in
+        let onPart : (P : ℕ → Type 0) → P (length u) → P n = λ P. subst P many in
+        let words = words-restated (length u) w .1 (r .sound .kept, r .well .numbers) in
+        let bytes : SlotsIn (word w 6) (word w 8) (word w 9) q = record { long = r .sound .queues .long; rx = r .sound .queues .rx; tx = r .sound .queues .tx; completion = r .sound .queues .completion } in
+        let figures = count-as-figures w u q typed (sets .small) few (sym many) (r .well .pages) (r .well .queues) (sets .free) (r .sound .queues .inRx) (r .sound .queues .inTx) in
+        record {
+          part = onPart IsPart (sets .part);
+          fixed = words .0;
+          numbers = onPart (λ m. NumbersFormed m (word w 7) (word w 17)) (words .1);
+          places = record-long h;
+          empty = empty-rest s n (h .rest);
+          sets = onPart (λ m. SetsFormed m (at s)) (subst (SetsFormed (length u)) same (sets-restated (length u) u few .1 (sets .small, r .well .pages)));
+          queues = onPart (λ m. QueuesFormed m (word w 6) (word w 8) (word w 9) (at s) q)
+              (subst (λ (a : ℕ → ℕ). QueuesFormed (length u) (word w 6) (word w 8) (word w 9) a q) same (queues-as-bytes (length u) few u (sets .small) (word w 6) (word w 8) (word w 9) q (bytes, r .well .queues)));
+          figures = onPart (λ m. FiguresFormed m w s q) (record { free = ap (λ (x : ℕ). word w 4 / 256 + x) (ap pagesIn (record-cut h) ∙ padded-pages u (24 - n)) ∙ figures .free; inRx = figures .inRx; inTx = figures .inTx });
+          request = request-restated w (length u) _ few (sets .free) .1 (r .well .request);
+        }

@@ -1,11 +1,11 @@
 -- What a store into a word of the file does to the registers that it stands for: a law for each word. Each goes by `written-out`: on a file that is
 -- written out to its 32 words both sides compute.
 use mathlib.Core.Path.{_≡_, refl, _∙_}
-use mathlib.Core.List.{List, _∷_}
+use mathlib.Core.List.{List, [], _∷_}
 use Prim.Native.Nat.{ℕ, _+_, _*_, _/_, _%_, _<_}
 use native.Mathlib.Omega.{arith}
 use lib.ListN.{set}
-use Rattle.rules.specs.Bits.{bit, lowByte, highByte}
+use Rattle.rules.specs.Bits.{bit, lowByte, highByte, wordOf}
 use Rattle.rules.specs.Chip.{Registers}
 use Rattle.rules.specs.Fields.{setTcr, setEphsr, setRcr, setEcr, setReserved, setStation, setControl, setPacket, setResult, setWaiting, setPointer, setMask, setTable, setBank, setTxEmpty, setOverrun, setLink}
 use Rattle.rules.specs.Registers.{Lanes, low, high, both, mergedAt}
@@ -214,8 +214,8 @@ unfolding Written
 store-mir y = counted (λ w. set w 4 y) (λ w. withMir y (figures w)) (λ a b c d e f g h i j k l m n o p q r s t u x y z a2 b2 c2 d2 e2 f2 g2 h2 fix blank.
     record { regs = refl; counted = refl; kept = record { whole = refl; fixed = fix; blank = blank } })
 
--- All of them, where no packet has pages and no queue has entries: MIR is 1818h.
-pub store-none : (w : List ℕ) → Kept w → Recounts noFigures w (set (set (set (set (set (set (set (set w 6 0) 8 0) 9 0) 4 0x1818) 28 0) 29 0) 30 0) 31 0)
+-- All of them, where no packet has pages and no queue has entries, of the part with n packets.
+pub store-none : (n m : ℕ) → m ≡ wordOf n n → (w : List ℕ) → Kept w → Recounts (noFigures n) w (set (set (set (set (set (set (set (set w 6 0) 8 0) 9 0) 4 m) 28 0) 29 0) 30 0) 31 0)
 unfolding Written
-store-none = counted (λ w. set (set (set (set (set (set (set (set w 6 0) 8 0) 9 0) 4 0x1818) 28 0) 29 0) 30 0) 31 0) (λ w. noFigures) (λ a b c d e f g h i j k l m n o p q r s t u x y z a2 b2 c2 d2 e2 f2 g2 h2 fix blank.
-    record { regs = refl; counted = refl; kept = record { whole = refl; fixed = fix; blank = blank } })
+store-none size mir told = counted (λ w. set (set (set (set (set (set (set (set w 6 0) 8 0) 9 0) 4 mir) 28 0) 29 0) 30 0) 31 0) (λ w. noFigures size) (λ a b c d e f g h i j k l m n o p q r s t u x y z a2 b2 c2 d2 e2 f2 g2 h2 fix blank.
+    record { regs = refl; counted = λ ι. 0 ∷ 0 ∷ 0 ∷ told ι ∷ 0 ∷ 0 ∷ 0 ∷ 0 ∷ []; kept = record { whole = refl; fixed = fix; blank = blank } })

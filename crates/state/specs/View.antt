@@ -1,10 +1,10 @@
--- What the lent state stands for: 32 words of registers, 24 numbers which say the packets' pages, and 72 bytes of queues, RX, TX and completion of 24 each.
--- A packet's number is the set of its pages; on the chip of strips (document 02, W3) it is how many pages the packet has.
+-- What the lent state stands for: 32 words of registers, for each packet of the part a number which says its pages, and 72 bytes of queues, RX, TX and completion with 24 places each.
+-- A packet's number is the set of its pages; on the chip of strips (document 02, W3) it is how many pages the packet has. There are as many as the part has packets, 24 or 18 (W9).
 use mathlib.Core.Path.{_≡_}
 use mathlib.Core.List.{List, [], _∷_, map}
 use Prim.Native.Nat.{ℕ, suc, _+_, _*_, _/_, _%_, _<_}
 use lib.ListN.{length, getD, take}
-use Rattle.rules.specs.Bits.{bit, flag}
+use Rattle.rules.specs.Bits.{bit, flag, wordOf}
 use Rattle.rules.specs.Lists.{upFrom}
 use Rattle.rules.specs.Chip.{Registers, Layout, paged, strips, Pool, Chip}
 use Rattle.sets.specs.Views.{pagesOf}
@@ -59,9 +59,9 @@ withCompletion n c = word c 0 ∷ word c 1 ∷ n ∷ word c 3 ∷ word c 4 ∷ w
 abbrev pub withMir : ℕ → List ℕ → List ℕ
 withMir x c = word c 0 ∷ word c 1 ∷ word c 2 ∷ x ∷ word c 4 ∷ word c 5 ∷ word c 6 ∷ word c 7 ∷ []
 
--- The figures where no packet has pages and no queue has entries.
-abbrev pub noFigures : List ℕ
-noFigures = 0 ∷ 0 ∷ 0 ∷ 0x1818 ∷ 0 ∷ 0 ∷ 0 ∷ 0 ∷ []
+-- The figures where no packet has pages and no queue has entries, of the part with n packets: 1818h of document 01's, "MIR 1212h after reset" of the other (W9).
+abbrev pub noFigures : ℕ → List ℕ
+noFigures n = 0 ∷ 0 ∷ 0 ∷ wordOf n n ∷ 0 ∷ 0 ∷ 0 ∷ 0 ∷ []
 
 -- the entries of queue k: the first `count` of its 24 bytes
 abbrev pub queueIn : ℕ → ℕ → List ℕ → List ℕ

@@ -1,7 +1,8 @@
-// The lent state: 32 words of registers, 24 page sets, and 72 bytes of queues. What a step answers, and which bytes of a word an access reaches.
+// The lent state: 32 words of registers, a page set for each packet of the part, and 72 bytes of queues. What a step answers, and which bytes of a word an access reaches.
 mod bytes; // bytes.rt: the bytes of a word that an access reads or writes
 pub mod flags; // flags.rt: the bits of the words, by the data sheet's names
 mod link; // link.rt: EPHSR as it is shown
+mod part; // part.rt: the two parts
 mod places; // places.rt: which word is which register, and where the queues stand
 
 pub use bytes::is_high;
@@ -9,7 +10,12 @@ pub use bytes::merged;
 pub use bytes::misplaced;
 pub use bytes::taken;
 pub use link::shown_ephsr;
-pub use places::ALL_FREE;
+pub use part::Named;
+pub use part::Part;
+pub use part::is_part;
+pub use part::packets_of;
+pub use part::part_named;
+pub use part::size_in;
 pub use places::BANK;
 pub use places::COMMAND;
 pub use places::COMPLETION;
@@ -50,8 +56,8 @@ ghost use Rattle.state.specs.Meaning.{replyOf};
 // The bytes of a page.
 pub const PAGE_BYTES: u32 = 256;
 
-// Packet numbers are below this, and a queue has room for all of them.
-pub const PACKETS: u8 = 24;
+// A record has places for so many packets, and a queue room for all of them: each packet number of either part is below it.
+pub const PLACES: u8 = 24;
 
 // What the allocation result and the heads of queues are where there is no packet: bit 7 (FAILED, EMPTY) alone.
 pub const NO_PACKET: u8 = 0x80;
@@ -118,7 +124,7 @@ pub fn printed(answer: Answer) -> Shown
     }
 }
 
-// What the public entries take by value and give back; the steps below them borrow what is in them.
+// What the public entries take by value and give back; the steps below them borrow what is in them, and of the page sets those of the part.
 pub struct Registers {
     pub words: [u16; 32],
 }

@@ -8,7 +8,7 @@ pub const RCR: usize = 2;
 
 pub const ECR: usize = 3;
 
-// how many pages there are; how many are free in the high byte
+// how many pages and packets the part has, which names it; how many pages are free in the high byte
 pub const MIR: usize = 4;
 
 // pages reserved for transmit; 33h in the high byte
@@ -76,9 +76,6 @@ pub const IN_RX_HIGH: usize = 29;
 pub const IN_TX: usize = 30;
 
 pub const IN_TX_HIGH: usize = 31;
-
-// MIR where every page is free.
-pub const ALL_FREE: u16 = 0x1818;
 
 // Where the queues stand in their 72 bytes.
 pub const RX: usize = 0;

@@ -12,11 +12,11 @@ use Rattle.strip_bytes.specs.Strip.{stripOf, InStrip, strip-place}
 
 module _ {end k : ℕ} {memory : List ℕ} (h : InStrip end k memory) where
   pub strip-less : (e : ℕ) → e ≤ end → InStrip e k memory
-  strip-less e f = record { whole = h .whole; number = h .number; within = omega (arith, h .within) }
+  strip-less e f = record { there = h .there; within = omega (arith, h .within) }
 
   -- bytes that are put leave it
   pub strip-after : {after : List ℕ} (bytes pages : List ℕ) (a : ℕ) → after ≡ putBytes bytes a pages memory → InStrip end k after
-  strip-after bytes pages a e = record { whole = ap length e ∙ length-put bytes a pages memory ∙ h .whole; number = h .number; within = h .within }
+  strip-after bytes pages a e = record { there = omega (arith, ap length e, length-put bytes a pages memory, h .there); within = h .within }
 
 -- the byte that lies at i
 pub strip-byte : (k a i : ℕ) (memory : List ℕ) → a < 2048 → i ≡ 2048 * k + a → getD memory i 0 ≡ valueOf (getBytes 1 a (stripOf k) memory)

@@ -19,10 +19,9 @@ use Rattle.packet.specs.Room.{imageOf}
 abbrev pub stripOf : ℕ → List ℕ
 stripOf k = upFrom (8 * k) 8
 
--- memory has its 24 strips, packet k has one of them, and its addresses below `end` are in it
+-- memory has a strip for packet k, and its addresses below `end` are in it
 pub record InStrip (end k : ℕ) (memory : List ℕ) : Type 0 where
-  pub whole : length memory ≡ 49152
-  pub number : k < 24
+  pub there : 2048 * k + 2048 ≤ length memory
   pub within : end ≤ 2048
 
 -- With the first m pages, which is enough for the addresses below 256m.

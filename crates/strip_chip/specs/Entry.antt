@@ -13,8 +13,8 @@ use Rattle.strip_chip.specs.declared.Returned.{Returned}
 abbrev pub Answers : Input → Registers → Strips → Queues → List ℕ → Returned → List ℕ → List ℕ → Type 0
 Answers i r p f mem x mem′ out′ = AnswersOf strips i (r .words) (p .counts) (f .slots) mem (x .answer) (x .registers .words) (x .strips .counts) (x .queues .slots) mem′ out′
 
-abbrev pub Started : Returned → Type 0
-Started x = StartedOf strips (x .answer) (x .registers .words) (x .strips .counts) (x .queues .slots)
+abbrev pub Started : ℕ → Returned → Type 0
+Started n x = StartedOf strips n (x .answer) (x .registers .words) (x .strips .counts) (x .queues .slots)
 
 abbrev pub Lines : Registers → Strips → Queues → Bool → Type 0
 Lines r p f up = LinesOf strips (r .words) (p .counts) (f .slots) up

@@ -13,7 +13,7 @@ ghost use Rattle.rules.specs.Chip.{strips};
 ghost use Rattle.rules.specs.Step as rules;
 ghost use Rattle.state.specs.Meaning.{widthOf};
 ghost use Rattle.state.specs.View.{viewOf};
-ghost use Rattle.state.specs.Entry.{InOrderOf, RightOf};
+ghost use Rattle.state.specs.Entry.{InOrderOf, RightOf, recordView, WholeOf, LeavesOf};
 ghost use Rattle.strip_chip.specs.Entry.{Answers};
 ghost use Rattle.chip.specs.Inputs.{accessOf};
 
@@ -48,21 +48,30 @@ pub fn write(
     strip_steps::write(words, counts, queues, memory, width, offset, value)
 }
 
-// The step below the public entry: no check is repeated here.
-pub fn accessed(
+// Either, on a record in order, with its 24 places: the step is lent those of the part.
+fn accessed_whole(
     words: &mut [u16],
     counts: &mut [u32],
     queues: &mut [u8],
     memory: &mut [u8],
     a: Request,
 ) -> Answer
-    requires { ⌜ InOrderOf strips (now words) (now counts) (now queues) (now memory) ⌝ }
-    ensures { λ x. ⌜ RightOf strips (rules.step (rules.driver (accessOf a)) (viewOf strips (now (words .entry)) (now (counts .entry)) (now (queues .entry)) (now (memory .entry)))) x (now (words .exit)) (now (counts .exit)) (now (queues .exit)) (now (memory .exit)) [] ⌝ }
+    requires { ⌜ WholeOf strips (now words) (now counts) (now queues) (now memory) ⌝ }
+    ensures { λ x. ⌜ LeavesOf strips (rules.step (rules.driver (accessOf a)) (recordView strips (now (words .entry)) (now (counts .entry)) (now (queues .entry)) (now (memory .entry)))) x (now (words .exit)) (now (counts .exit)) (now (queues .exit)) (now (memory .exit)) [] ⌝ }
 {
+    let n = state::size_in(words);
     match a {
-        Request::Read(width, offset) => read(words, counts, queues, memory, width, offset),
+        Request::Read(width, offset) => read(words, &counts[..n], queues, memory, width, offset),
         Request::Write(width, offset, value) => {
-            write(words, counts, queues, memory, width, offset, value)
+            write(
+                words,
+                &mut counts[..n],
+                queues,
+                memory,
+                width,
+                offset,
+                value,
+            )
         }
     }
 }
@@ -75,7 +84,7 @@ pub fn access(r: Registers, p: Strips, q: Queues, memory: &mut [u8], a: Request)
     let mut counts = p.counts;
     let mut slots = q.slots;
     let answer = if in_order(&words, &counts, &slots, memory) {
-        accessed(&mut words, &mut counts, &mut slots, memory, a)
+        accessed_whole(&mut words, &mut counts, &mut slots, memory, a)
     } else {
         Answer::Damaged
     };

@@ -1,5 +1,6 @@
 // The chip of strips (document 02, W3): every access, arriving frame, finished send and link event, as `chip` has them. Each packet lies in its own strip of 2,048 bytes, and of pages the record
-// has only how many each packet has. Each step has two doors: a public entry for any record and memory, by value, which refuses with 16 what is not in order; and the same step below it.
+// has only how many each packet has. Each step has two doors: a public entry for any record and memory, by value, which refuses with 16 what is not in order; and the same step below it, which is
+// lent the counts of its part's packets alone.
 mod driver; // driver.rt: accesses of the driver to the sixteen I/O addresses
 mod frames; // frames.rt: arriving frames
 mod sends; // sends.rt: finished sends
@@ -22,7 +23,7 @@ use state::Answer;
 use state::Queues;
 use state::Registers;
 
-// How many pages each packet has: at most a strip's eight, and with the free ones, which MIR counts, 24 in sum.
+// How many pages each packet has: at most a strip's eight, and with the free ones, which MIR counts, as many in sum as the part has packets. A place of no packet is 0.
 pub struct Strips {
     pub counts: [u32; 24],
 }

@@ -8,7 +8,7 @@ use state::Registers;
 ghost use Rattle.rules.specs.Chip.{strips};
 ghost use Rattle.rules.specs.Step as rules;
 ghost use Rattle.state.specs.View.{viewOf};
-ghost use Rattle.state.specs.Entry.{InOrderOf, RightOf};
+ghost use Rattle.state.specs.Entry.{InOrderOf, RightOf, recordView, WholeOf, LeavesOf};
 ghost use Rattle.strip_chip.specs.Entry.{Answers};
 
 // The step below the public entry: no check is repeated here.
@@ -37,6 +37,33 @@ pub fn finished(
     )
 }
 
+// The same on a record in order, with its 24 places: the step is lent those of the part.
+fn finished_whole(
+    words: &mut [u16],
+    counts: &mut [u32],
+    queues: &mut [u8],
+    memory: &mut [u8],
+    out: &mut [u8],
+    outcome: u8,
+    collisions: u8,
+    deferral: u8,
+) -> Answer
+    requires { ⌜ WholeOf strips (now words) (now counts) (now queues) (now memory) ⌝ }
+    ensures { λ a. ⌜ LeavesOf strips (rules.step (rules.sent (record { outcome = outcome; collisions = collisions; deferral = deferral }) (now (out .entry))) (recordView strips (now (words .entry)) (now (counts .entry)) (now (queues .entry)) (now (memory .entry)))) a (now (words .exit)) (now (counts .exit)) (now (queues .exit)) (now (memory .exit)) (now (out .exit)) ⌝ }
+{
+    let n = state::size_in(words);
+    finished(
+        words,
+        &mut counts[..n],
+        queues,
+        memory,
+        out,
+        outcome,
+        collisions,
+        deferral,
+    )
+}
+
 // The packet at the head of TX has been sent; what is put out goes to the front of the output buffer.
 pub fn send(
     r: Registers,
@@ -54,7 +81,7 @@ pub fn send(
     let mut counts = p.counts;
     let mut slots = q.slots;
     let answer = if in_order(&words, &counts, &slots, memory) {
-        finished(
+        finished_whole(
             &mut words,
             &mut counts,
             &mut slots,

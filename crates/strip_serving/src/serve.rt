@@ -1,16 +1,23 @@
 // From standard input to standard output: a record is read, answered, and its line written, before the next is waited for.
 use crate::turn::answer;
 use records::Counter;
+use state::Answer;
+use state::Named;
+use state::Part;
 use streams::Reading;
 ghost use mathlib.Core.Path.{_≡_};
-ghost use Prim.Native.Nat.{_≤_};
+ghost use mathlib.Core.Logic.{_⊎_};
+ghost use Prim.Native.Nat.{_≤_, _<_};
 ghost use lib.ListN.{length, take};
 ghost use Rattle.rules.specs.Chip.{strips};
+ghost use Rattle.rules.specs.Bench.{asksFor};
 ghost use Rattle.records.specs.Counting.{Counts};
 ghost use Rattle.records.specs.Gathers.{holding};
+ghost use Rattle.state.specs.Meaning.{packetsOf, packetsNamed};
 ghost use Rattle.state.specs.View.{viewOf};
 ghost use Rattle.turns.specs.Turns.{HeldOf};
-ghost use Rattle.turns.specs.Served.{ServedOf};
+ghost use Rattle.turns.specs.Served.{asked, ServedOf};
+ghost use Rattle.strip_serving.specs.First.{atFirst, startsAs, Starting};
 
 // Reads a record: eight bytes, or those that are left where the input ends. That it cannot be read is said. Returns how many bytes there are.
 fn read_record(program: &[u8], bytes: &mut [u8], number: u64) -> usize
@@ -31,7 +38,7 @@ fn read_record(program: &[u8], bytes: &mut [u8], number: u64) -> usize
     filled
 }
 
-// Answers a record, and writes its line to the front of the buffer; returns the place behind it.
+// Answers a record, behind the first or one that asks for no part, and writes its line to the front of the buffer; returns the place behind it.
 fn serve_record(
     words: &mut [u16],
     counts: &mut [u32],
@@ -45,11 +52,69 @@ fn serve_record(
     line: &mut [u8],
 ) -> usize
     requires { ⌜ HeldOf strips (now words) (now counts) (now queues) (now memory) (now wire) (now have) ⌝ }
-    requires { ⌜ (length (now bytes) ≤ 8) × Counts counter × (length (now line) ≡ 40) ⌝ }
+    requires { ⌜ (length (now bytes) ≤ 8) × Counts counter × (length (now line) ≡ 40) × ((1 < counter .number) ⊎ (asksFor (asked (now bytes)) ≡ 0)) ⌝ }
     ensures { λ end. ⌜ ServedOf strips (counter .number) (now (bytes .entry)) (holding (viewOf strips (now (words .entry)) (now (counts .entry)) (now (queues .entry)) (now (memory .entry))) (take (now (have .entry)) (now (wire .entry))) (now (out .entry))) (now (words .exit)) (now (counts .exit)) (now (queues .exit)) (now (memory .exit)) (now (wire .exit)) (now (have .exit)) (now (out .exit)) (now (line .exit)) end ⌝ }
 {
     let given = answer(words, counts, queues, memory, wire, have, out, bytes);
     records::line_at(line, 0, counter, state::printed(given))
+}
+
+// The part that record 1 asks for, if it has eight bytes and asks for one.
+fn part_in(bytes: &[u8]) -> Named
+    requires { ⌜ length (now bytes) ≤ 8 ⌝ }
+    ensures { λ r. ⌜ packetsNamed r ≡ asksFor (asked (now (bytes .entry))) ⌝ }
+{
+    if bytes.len() < 8 {
+        return Named::Unknown;
+    }
+    records::part_asked(bytes)
+}
+
+// The part that powers up for record 1.
+fn part_for(bytes: &[u8]) -> Part
+    requires { ⌜ length (now bytes) ≤ 8 ⌝ }
+    ensures { λ p. ⌜ packetsOf p ≡ startsAs (asked (now (bytes .entry))) ⌝ }
+{
+    let named = part_in(bytes);
+    match named {
+        Named::Known(part) => part,
+        Named::Unknown => Part::Lan91c96,
+    }
+}
+
+// Answers record 1 on the chip that powered up for it, and writes its line, as `serve_record`. One that asks for the part has then got it.
+fn serve_first(
+    words: &mut [u16],
+    counts: &mut [u32],
+    queues: &mut [u8],
+    memory: &mut [u8],
+    wire: &mut [u8],
+    have: &mut usize,
+    out: &mut [u8],
+    bytes: &[u8],
+    line: &mut [u8],
+) -> usize
+    requires { ⌜ Starting (now bytes) (now words) (now counts) (now queues) (now memory) (now wire) (now have) (now out) ⌝ }
+    requires { ⌜ (length (now bytes) ≤ 8) × (length (now line) ≡ 40) ⌝ }
+    ensures { λ end. ⌜ ServedOf strips 1 (now (bytes .entry)) atFirst (now (words .exit)) (now (counts .exit)) (now (queues .exit)) (now (memory .exit)) (now (wire .exit)) (now (have .exit)) (now (out .exit)) (now (line .exit)) end ⌝ }
+{
+    let counter = records::counter_of(1);
+    let named = part_in(bytes);
+    match named {
+        Named::Known(_) => records::line_at(line, 0, counter, state::printed(Answer::Done(0))),
+        Named::Unknown => serve_record(
+            words,
+            counts,
+            queues,
+            memory,
+            wire,
+            have,
+            out,
+            bytes,
+            counter,
+            line,
+        ),
+    }
 }
 
 // Writes the line of a record, which stands before `end`. Where that fails it says so, and behind which record; returns whether it went well.
@@ -63,35 +128,35 @@ fn write_line(program: &[u8], line: &[u8], end: usize, number: u64) -> bool
     false
 }
 
-// The bench of strips, from power-up to the end of the input; `program` is the name that it has on standard error. The loop ends at record 2^63, which no run comes to.
-pub fn run(program: &[u8]) {
-    let start = strip_chip::power_up();
-    let registers = start.registers;
-    let strips = start.strips;
-    let fifos = start.queues;
-    let mut words = registers.words;
-    let mut counts = strips.counts;
-    let mut queues = fifos.slots;
-    let mut memory = [0; 49152];
-    let mut wire = [0; 2048];
-    let mut have = 0;
-    let mut out = [0; 2052];
+// Each record behind the first is served before the next is waited for, until the input ends. The loop ends at record 2^63, which no run comes to.
+fn serve_from(
+    program: &[u8],
+    words: &mut [u16],
+    counts: &mut [u32],
+    queues: &mut [u8],
+    memory: &mut [u8],
+    wire: &mut [u8],
+    have: &mut usize,
+    out: &mut [u8],
+)
+    requires { ⌜ HeldOf strips (now words) (now counts) (now queues) (now memory) (now wire) (now have) ⌝ }
+{
     let mut bytes = [0; 8];
     let mut line = [0; 40];
-    let mut counter = records::counter_of(1);
+    let mut counter = records::counter_of(2);
     while counter.number < 0x8000000000000000 {
         let filled = read_record(program, &mut bytes, counter.number);
         if filled == 0 {
             return;
         }
         let end = serve_record(
-            &mut words,
-            &mut counts,
-            &mut queues,
-            &mut memory,
-            &mut wire,
-            &mut have,
-            &mut out,
+            words,
+            counts,
+            queues,
+            memory,
+            wire,
+            have,
+            out,
             &bytes[..filled],
             counter,
             &mut line,
@@ -104,4 +169,70 @@ pub fn run(program: &[u8]) {
         }
         counter = records::next(counter);
     }
+}
+
+// Record 1, which has been read, and the others.
+fn serve_all(
+    program: &[u8],
+    words: &mut [u16],
+    counts: &mut [u32],
+    queues: &mut [u8],
+    memory: &mut [u8],
+    wire: &mut [u8],
+    out: &mut [u8],
+    bytes: &[u8],
+)
+    requires { ⌜ Starting (now bytes) (now words) (now counts) (now queues) (now memory) (now wire) 0 (now out) × (length (now bytes) ≤ 8) ⌝ }
+{
+    let mut have = 0;
+    let mut line = [0; 40];
+    let end = serve_first(
+        words,
+        counts,
+        queues,
+        memory,
+        wire,
+        &mut have,
+        out,
+        bytes,
+        &mut line,
+    );
+    if !write_line(program, &line, end, 1) {
+        return;
+    }
+    if bytes.len() < 8 {
+        return;
+    }
+    serve_from(program, words, counts, queues, memory, wire, &mut have, out);
+}
+
+// The bench of strips to the end of the input; `program` is the name that it has on standard error. Record 1 is read before the chip powers up, for it may ask for the part.
+pub fn run(program: &[u8]) {
+    let mut bytes = [0; 8];
+    let filled = read_record(program, &mut bytes, 1);
+    if filled == 0 {
+        return;
+    }
+    let part = part_for(&bytes[..filled]);
+    let n = state::packets_of(part);
+    let start = strip_chip::power_up(part);
+    let registers = start.registers;
+    let strips = start.strips;
+    let fifos = start.queues;
+    let mut words = registers.words;
+    let mut counts = strips.counts;
+    let mut queues = fifos.slots;
+    let mut memory = [0; 49152];
+    let mut wire = [0; 2048];
+    let mut out = [0; 2052];
+    serve_all(
+        program,
+        &mut words,
+        &mut counts[..n],
+        &mut queues,
+        &mut memory[..2048 * n],
+        &mut wire,
+        &mut out,
+        &bytes[..filled],
+    );
 }

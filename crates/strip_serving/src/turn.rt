@@ -33,7 +33,7 @@ fn frame_ends(
     strip_chip::arrived(words, counts, queues, memory, &wire[..n], align)
 }
 
-// A record of eight bytes, or of fewer where the input's end has cut it short.
+// A record of eight bytes, or of fewer where the input's end has cut it short; behind the first, or one that asks for no part.
 pub fn answer(
     words: &mut [u16],
     counts: &mut [u32],
@@ -71,6 +71,8 @@ pub fn answer(
             deferral,
         ),
         Event::Link(up) => strip_chip::linked(words, counts, queues, memory, up),
+        // the part is asked for by record 1 alone, and serve.rt has that
+        Event::Part(_) => Answer::OutsideLimits,
         Event::Unknown => Answer::CutShort,
     }
 }

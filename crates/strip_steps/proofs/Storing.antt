@@ -35,8 +35,8 @@ module _ {w s q : List ℕ} {f : Frame} (t : StowableOf strips w s q f) where
   unfolding needed pagesFor
   held = omega arith
 
-  pub in-strip : (k : ℕ) (mem : List ℕ) → k ≡ number t → length mem ≡ 49152 → InStrip (countOf n) k mem
-  in-strip k mem a whole = record { whole = whole; number = omega (arith, a, number-small t); within = omega (arith, held, few-needed t) }
+  pub in-strip : (k : ℕ) (mem : List ℕ) → k ≡ number t → length mem ≡ 2048 * length s → InStrip (countOf n) k mem
+  in-strip k mem a whole = record { there = omega (arith, whole, a, number-small t); within = omega (arith, held, few-needed t) }
 
   -- the memory with the frame written
   pub written : (mem after : List ℕ) (status count j k : ℕ) → after ≡ putBytes (imageOf status count j (f .bytes)) 0 (stripOf k) mem

@@ -78,7 +78,7 @@ module _ {w s q : List ℕ} (r : ReadyOf strips w s q) (k : ℕ) where
   pub count-few : getD s k 0 ≤ 8
   count-few = omega (arith, strip-count s k, r .well .pages .atMost k)
 
-  pub number-small : 0 < length (getD (stripsFrom 0 s) k []) → k < 24
+  pub number-small : 0 < length (getD (stripsFrom 0 s) k []) → k < length s
   unfolding some?
   number-small h = omega (arith, has-small (stripsFrom 0 s) k (has (getD (stripsFrom 0 s) k []) h), r .well .count)
     where
@@ -88,8 +88,8 @@ module _ {w s q : List ℕ} (r : ReadyOf strips w s q) (k : ℕ) where
 
   -- bytes in its pages lie in its strip
   module _ (n a : ℕ) (memory : List ℕ) (inside : a + n ≤ 256 * length (getD (stripsFrom 0 s) k [])) where
-    pub in-strip : 0 < n → length memory ≡ 49152 → InStrip (a + n) k memory
-    in-strip some whole = record { whole = whole; number = number-small (omega (arith, some, inside)); within = omega (arith, inside, strip-count s k, count-few) }
+    pub in-strip : 0 < n → length memory ≡ 2048 * length s → InStrip (a + n) k memory
+    in-strip some whole = record { there = omega (arith, whole, number-small (omega (arith, some, inside))); within = omega (arith, inside, strip-count s k, count-few) }
 
     pub strip-reads : getBytes n a (stripOf k) memory ≡ getBytes n a (getD (stripsFrom 0 s) k []) memory
     strip-reads = first-get k (getD s k 0) count-few n a memory (omega (arith, inside, strip-count s k)) ∙ sym (ap (λ (l : List ℕ). getBytes n a l memory) (strip-at s k))

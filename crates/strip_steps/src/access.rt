@@ -67,7 +67,7 @@ pub fn read_data(
     memory: &[u8],
     wide: bool,
 ) -> Answer
-    requires { ⌜ ReadyOf strips (now words) (now counts) (now queues) × (length (now memory) ≡ 49152) ⌝ }
+    requires { ⌜ ReadyOf strips (now words) (now counts) (now queues) × (length (now memory) ≡ 2048 * length (now counts)) ⌝ }
     ensures { λ a. ⌜ MakesOf strips (readData (widthOf wide) (viewOf strips (now (words .entry)) (now (counts .entry)) (now (queues .entry)) (now (memory .entry)))) a (now (words .exit)) (now (counts .entry)) (now (queues .entry)) (now (memory .entry)) ⌝ }
 {
     let packet = data::meant(words, queues);
@@ -90,7 +90,7 @@ pub fn write_data(
     wide: bool,
     value: u16,
 ) -> Answer
-    requires { ⌜ ReadyOf strips (now words) (now counts) (now queues) × (length (now memory) ≡ 49152) ⌝ }
+    requires { ⌜ ReadyOf strips (now words) (now counts) (now queues) × (length (now memory) ≡ 2048 * length (now counts)) ⌝ }
     ensures { λ a. ⌜ MakesOf strips (writeData (bytesFor wide value) (viewOf strips (now (words .entry)) (now (counts .entry)) (now (queues .entry)) (now (memory .entry)))) a (now (words .exit)) (now (counts .entry)) (now (queues .entry)) (now (memory .exit)) ⌝ }
 {
     let packet = data::meant(words, queues);

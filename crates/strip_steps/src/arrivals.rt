@@ -10,6 +10,7 @@ use state::Answer;
 use state::CONTROL;
 use state::RCR;
 ghost use mathlib.Core.Path.{_≡_};
+ghost use Prim.Native.Nat.{_*_};
 ghost use lib.ListN.{length};
 ghost use Rattle.rules.specs.Chip.{strips};
 ghost use Rattle.rules.specs.Answers.{doneWith};
@@ -27,7 +28,7 @@ fn stowed(
     frame: &[u8],
     alignment: bool,
 ) -> Answer
-    requires { ⌜ StowableOf strips (now words) (now counts) (now queues) (frameOf (now frame) alignment) × (length (now memory) ≡ 49152) ⌝ }
+    requires { ⌜ StowableOf strips (now words) (now counts) (now queues) (frameOf (now frame) alignment) × (length (now memory) ≡ 2048 * length (now counts)) ⌝ }
     ensures { λ a. ⌜ MakesOf strips (doneWith 0 (stow (frameOf (now (frame .entry)) alignment) (viewOf strips (now (words .entry)) (now (counts .entry)) (now (queues .entry)) (now (memory .entry))))) a (now (words .exit)) (now (counts .exit)) (now (queues .exit)) (now (memory .exit)) ⌝ }
 {
     let n = data_length(words[RCR], frame.len());
@@ -48,7 +49,7 @@ pub fn arrived(
     frame: &[u8],
     alignment: bool,
 ) -> Answer
-    requires { ⌜ ReadyOf strips (now words) (now counts) (now queues) × (length (now memory) ≡ 49152) ⌝ }
+    requires { ⌜ ReadyOf strips (now words) (now counts) (now queues) × (length (now memory) ≡ 2048 * length (now counts)) ⌝ }
     ensures { λ a. ⌜ MakesOf strips (arrive (frameOf (now (frame .entry)) alignment) (viewOf strips (now (words .entry)) (now (counts .entry)) (now (queues .entry)) (now (memory .entry)))) a (now (words .exit)) (now (counts .exit)) (now (queues .exit)) (now (memory .exit)) ⌝ }
 {
     if frame.len() < 18 {

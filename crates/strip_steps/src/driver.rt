@@ -11,6 +11,7 @@ use state::ECR;
 use state::RCR;
 use state::Width;
 ghost use mathlib.Core.Path.{_≡_};
+ghost use Prim.Native.Nat.{_*_};
 ghost use lib.ListN.{length};
 ghost use Rattle.rules.specs.Chip.{strips};
 ghost use Rattle.rules.specs.Registers as rules;
@@ -27,7 +28,7 @@ pub fn read(
     width: Width,
     offset: u8,
 ) -> Answer
-    requires { ⌜ ReadyOf strips (now words) (now counts) (now queues) × (length (now memory) ≡ 49152) ⌝ }
+    requires { ⌜ ReadyOf strips (now words) (now counts) (now queues) × (length (now memory) ≡ 2048 * length (now counts)) ⌝ }
     ensures { λ a. ⌜ MakesOf strips (rules.access (rules.read (widthOf width) offset) (viewOf strips (now (words .entry)) (now (counts .entry)) (now (queues .entry)) (now (memory .entry)))) a (now (words .exit)) (now (counts .entry)) (now (queues .entry)) (now (memory .entry)) ⌝ }
 {
     if state::misplaced(width, offset) {
@@ -53,7 +54,7 @@ pub fn write(
     offset: u8,
     value: u16,
 ) -> Answer
-    requires { ⌜ ReadyOf strips (now words) (now counts) (now queues) × (length (now memory) ≡ 49152) ⌝ }
+    requires { ⌜ ReadyOf strips (now words) (now counts) (now queues) × (length (now memory) ≡ 2048 * length (now counts)) ⌝ }
     ensures { λ a. ⌜ MakesOf strips (rules.access (rules.write (widthOf width) offset value) (viewOf strips (now (words .entry)) (now (counts .entry)) (now (queues .entry)) (now (memory .entry)))) a (now (words .exit)) (now (counts .exit)) (now (queues .exit)) (now (memory .exit)) ⌝ }
 {
     if state::misplaced(width, offset) {

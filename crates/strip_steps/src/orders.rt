@@ -7,6 +7,7 @@ use state::RX_COUNT;
 use state::Width;
 ghost use mathlib.Core.List.{List};
 ghost use Prim.Native.Nat.{ℕ, _≤_};
+ghost use lib.ListN.{length};
 ghost use Rattle.rules.specs.Chip.{strips};
 ghost use Rattle.rules.specs.Mmu as rules;
 ghost use Rattle.rules.specs.Registers.{COMMAND, lanesAt, writeRegister};
@@ -18,7 +19,7 @@ ghost use Rattle.commands.specs.Orders.{PerformsOf};
 
 // Enough pages are free, or the request waits for them.
 fn do_allocate(words: &mut [u16], counts: &mut [u32], need: u32) -> Answer
-    requires { ⌜ (1 ≤ need) × (need ≤ 8) × Kept (now words) × PagesIn strips (figures (now words)) (now counts) × GoodLists strips 24 (stripsFrom 0 (now counts)) ⌝ }
+    requires { ⌜ (1 ≤ need) × (need ≤ 8) × Kept (now words) × PagesIn strips (figures (now words)) (now counts) × GoodLists strips (length (now counts)) (stripsFrom 0 (now counts)) ⌝ }
     ensures { λ a. ⌜ ((q : List ℕ) → QueuesIn (figures (now (words .entry))) q → PerformsOf strips (rules.allocate need) (now (words .entry)) (now (counts .entry)) q a (now (words .exit)) (now (counts .exit)) q) ⌝ }
 {
     if need <= pool::free_count(words) {
@@ -54,7 +55,7 @@ fn do_remove_and_release(words: &mut [u16], counts: &mut [u32], queues: &mut [u8
 
 // The packet that the packet number register names gives its pages back: refusal 5 where it has none, 6 where it is in RX or TX.
 fn do_release(words: &mut [u16], counts: &mut [u32]) -> Answer
-    requires { ⌜ Kept (now words) × PagesIn strips (figures (now words)) (now counts) × GoodLists strips 24 (stripsFrom 0 (now counts)) × (word (now words) 23 ≤ 8) ⌝ }
+    requires { ⌜ Kept (now words) × PagesIn strips (figures (now words)) (now counts) × GoodLists strips (length (now counts)) (stripsFrom 0 (now counts)) × (word (now words) 23 ≤ 8) ⌝ }
     ensures { λ a. ⌜ ((q : List ℕ) → ReadyOf strips (now (words .entry)) (now (counts .entry)) q → PerformsOf strips rules.release (now (words .entry)) (now (counts .entry)) q a (now (words .exit)) (now (counts .exit)) q) ⌝ }
 {
     let packet = named(words);

@@ -37,7 +37,7 @@ pub fn write_rcr(
 ) -> Answer
     requires { ⌜ SoundOf strips (now words) (now counts) (now queues) ⌝ }
     ensures done { λ a. ⌜ ((mem : List ℕ) → MakesOf strips (rules.writeRegister rules.RCR (rules.lanesAt (widthOf width) offset) value (viewOf strips (now (words .entry)) (now (counts .entry)) (now (queues .entry)) mem)) a (now (words .exit)) (now (counts .exit)) (now (queues .exit)) mem) ⌝ }
-    ensures long { λ a. ⌜ (length (now (words .exit)) ≡ 32) × (length (now (counts .exit)) ≡ 24) × (length (now (queues .exit)) ≡ 72) ⌝ }
+    ensures long { λ a. ⌜ (length (now (words .exit)) ≡ 32) × (length (now (counts .exit)) ≡ length (now (counts .entry))) × (length (now (queues .exit)) ≡ 72) ⌝ }
 {
     let rcr = new_rcr(width, offset, value, words[RCR]);
     if bits::is_set(rcr, flags::SOFT_RST) {

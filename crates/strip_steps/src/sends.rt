@@ -23,7 +23,7 @@ use strip_output::put_out;
 ghost use mathlib.Core.Path.{_≡_};
 ghost use mathlib.Core.Bool.{false};
 ghost use mathlib.Core.List.{[]};
-ghost use Prim.Native.Nat.{_≤_, _<_};
+ghost use Prim.Native.Nat.{_*_, _≤_, _<_};
 ghost use lib.ListN.{length, getD};
 ghost use Rattle.rules.specs.Chip.{strips};
 ghost use Rattle.rules.specs.Send as rules;
@@ -35,7 +35,7 @@ ghost use Rattle.sending.specs.Sends.{headSent, RetiresOf, CompletesOf, SendsOf
 
 // The packet is released, or its number joins completion.
 fn retire(words: &mut [u16], counts: &mut [u32], queues: &mut [u8], packet: Packet, released: bool)
-    requires { ⌜ (packet .0 < 24) × SoundOf strips (now words) (now counts) (now queues) × GoodLists strips 24 (stripsFrom 0 (now counts)) × (released ≡ false → word (now words) 9 < 24) × (word (now words) 23 ≤ 8) ⌝ }
+    requires { ⌜ (packet .0 < length (now counts)) × SoundOf strips (now words) (now counts) (now queues) × GoodLists strips (length (now counts)) (stripsFrom 0 (now counts)) × (released ≡ false → word (now words) 9 < 24) × (word (now words) 23 ≤ 8) ⌝ }
     ensures { λ _. ⌜ RetiresOf strips released (packet .0) (now (words .entry)) (now (counts .entry)) (now (queues .entry)) (now (words .exit)) (now (counts .exit)) (now (queues .exit)) ⌝ }
 {
     if released {
@@ -56,7 +56,7 @@ fn complete(
     good: bool,
     released: bool,
 )
-    requires { ⌜ ReadyOf strips (now words) (now counts) (now queues) × (length (now memory) ≡ 49152) × (0 < word (now words) 8) × (packet .0 ≡ getD (queueIn 1 (word (now words) 8) (now queues)) 0 0) × (s .outcome ≤ 5) × (released ≡ false → word (now words) 9 < 24) ⌝ }
+    requires { ⌜ ReadyOf strips (now words) (now counts) (now queues) × (length (now memory) ≡ 2048 * length (now counts)) × (0 < word (now words) 8) × (packet .0 ≡ getD (queueIn 1 (word (now words) 8) (now queues)) 0 0) × (s .outcome ≤ 5) × (released ≡ false → word (now words) 9 < 24) ⌝ }
     ensures { λ _. ⌜ CompletesOf strips released good (sendOf s) (getD (stripsFrom 0 (now (counts .entry))) (packet .0) []) (viewOf strips (now (words .entry)) (now (counts .entry)) (now (queues .entry)) (now (memory .entry))) (now (words .exit)) (now (counts .exit)) (now (queues .exit)) (now (memory .exit)) ⌝ }
 {
     let address = address_bits(memory, packet);
@@ -75,7 +75,7 @@ fn send_head(
     out: &mut [u8],
     s: Send,
 ) -> Answer
-    requires { ⌜ ReadyOf strips (now words) (now counts) (now queues) × (length (now memory) ≡ 49152) × (2052 ≤ length (now out)) × (0 < word (now words) 8) × (s .outcome ≤ 5) ⌝ }
+    requires { ⌜ ReadyOf strips (now words) (now counts) (now queues) × (length (now memory) ≡ 2048 * length (now counts)) × (2052 ≤ length (now out)) × (0 < word (now words) 8) × (s .outcome ≤ 5) ⌝ }
     ensures { λ a. ⌜ SendsOf strips (headSent (sendOf s) (viewOf strips (now (words .entry)) (now (counts .entry)) (now (queues .entry)) (now (memory .entry))) (now (out .entry))) a (now (words .exit)) (now (counts .exit)) (now (queues .exit)) (now (memory .exit)) (now (out .exit)) ⌝ }
 {
     let packet = pool::tx_head(queues);
@@ -91,7 +91,7 @@ fn send_head(
     }
     let good = is_good(words[TCR], s.outcome);
     let released = is_released(good, words[CONTROL]);
-    if is_full(released, words[COMPLETION_COUNT]) {
+    if is_full(released, words[COMPLETION_COUNT], counts.len()) {
         return Answer::CompletionFull;
     }
     let value = put_out(memory, packet, words[TCR], count, out);
@@ -110,7 +110,7 @@ pub fn finished(
     collisions: u8,
     deferral: u8,
 ) -> Answer
-    requires { ⌜ ReadyOf strips (now words) (now counts) (now queues) × (length (now memory) ≡ 49152) ⌝ }
+    requires { ⌜ ReadyOf strips (now words) (now counts) (now queues) × (length (now memory) ≡ 2048 * length (now counts)) ⌝ }
     ensures { λ a. ⌜ SendsOf strips (rules.finish (record { outcome = outcome; collisions = collisions; deferral = deferral }) (viewOf strips (now (words .entry)) (now (counts .entry)) (now (queues .entry)) (now (memory .entry))) (now (out .entry))) a (now (words .exit)) (now (counts .exit)) (now (queues .exit)) (now (memory .exit)) (now (out .exit)) ⌝ }
 {
     if out.len() < OUTPUT_BYTES {

@@ -1,2 +1,3 @@
 -- What the functions of this crate test.
 pub mod Counts
+pub mod Asked

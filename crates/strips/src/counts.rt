@@ -12,6 +12,7 @@ ghost use mathlib.Core.List.{[]};
 ghost use Prim.Native.Nat.{_≤_, _<_};
 ghost use lib.ListN.{length, take, set, getD};
 ghost use Rattle.rules.specs.Lists.{some?, firstEmpty};
+ghost use Rattle.rules.specs.Parts.{IsPart};
 ghost use Rattle.rules.specs.Chip.{strips, freeFor};
 ghost use Rattle.rules.specs.Mmu as rules;
 ghost use Rattle.wellformed.specs.Layouts.{GoodLists};
@@ -39,9 +40,9 @@ pub fn is_allocated(counts: &[u32], packet: Packet) -> bool
     pages_of(counts, packet) != 0
 }
 
-// The lowest number with no pages. Where each packet has some it is 24, which is no packet's: there the loop ends at the latest.
+// The lowest number with no pages. Where each packet has some it is their number, which is no packet's: there the loop ends at the latest.
 pub fn lowest_unallocated(counts: &[u32]) -> Packet
-    requires { ⌜ length (now counts) ≡ 24 ⌝ }
+    requires { ⌜ length (now counts) ≤ 24 ⌝ }
     ensures { λ r. ⌜ r .0 ≡ firstEmpty (stripsFrom 0 (now (counts .entry))) ⌝ }
 {
     let mut number = 0;
@@ -53,7 +54,7 @@ pub fn lowest_unallocated(counts: &[u32]) -> Packet
 
 // The packet, the lowest unallocated, gets `need` pages: as many fewer are free.
 pub fn grant(words: &mut [u16], counts: &mut [u32], packet: Packet, need: u32)
-    requires { ⌜ Kept (now words) × PagesIn strips (figures (now words)) (now counts) × GoodLists strips 24 (stripsFrom 0 (now counts)) × (packet .0 ≡ firstEmpty (stripsFrom 0 (now counts))) × (1 ≤ need) × (need ≤ 8) × (need ≤ length (freeFor strips (stripsFrom 0 (now counts)))) ⌝ }
+    requires { ⌜ Kept (now words) × PagesIn strips (figures (now words)) (now counts) × GoodLists strips (length (now counts)) (stripsFrom 0 (now counts)) × (packet .0 ≡ firstEmpty (stripsFrom 0 (now counts))) × (1 ≤ need) × (need ≤ 8) × (need ≤ length (freeFor strips (stripsFrom 0 (now counts)))) ⌝ }
     ensures { λ _. ⌜ RepagesOf strips (λ ls. set ls (packet .0) (take need (freeFor strips ls))) (now (words .entry)) (now (counts .entry)) (now (words .exit)) (now (counts .exit)) ⌝ }
 {
     words[MIR] = fewer(words[MIR], need);
@@ -62,7 +63,7 @@ pub fn grant(words: &mut [u16], counts: &mut [u32], packet: Packet, need: u32)
 
 // The packet's pages are free again.
 fn make_free(words: &mut [u16], counts: &mut [u32], packet: Packet)
-    requires { ⌜ Kept (now words) × PagesIn strips (figures (now words)) (now counts) × GoodLists strips 24 (stripsFrom 0 (now counts)) × (packet .0 < 24) ⌝ }
+    requires { ⌜ Kept (now words) × PagesIn strips (figures (now words)) (now counts) × GoodLists strips (length (now counts)) (stripsFrom 0 (now counts)) × (packet .0 < length (now counts)) ⌝ }
     ensures { λ _. ⌜ RepagesOf strips (λ ls. set ls (packet .0) []) (now (words .entry)) (now (counts .entry)) (now (words .exit)) (now (counts .exit)) ⌝ }
 {
     words[MIR] = more(words[MIR], pages_of(counts, packet));
@@ -71,7 +72,7 @@ fn make_free(words: &mut [u16], counts: &mut [u32], packet: Packet)
 
 // An allocation is granted: the lowest unallocated number gets the pages, the result reads it, and none waits.
 pub fn allocate(words: &mut [u16], counts: &mut [u32], need: u32)
-    requires { ⌜ Kept (now words) × PagesIn strips (figures (now words)) (now counts) × GoodLists strips 24 (stripsFrom 0 (now counts)) × (1 ≤ need) × (need ≤ 8) × (need ≤ length (freeFor strips (stripsFrom 0 (now counts)))) ⌝ }
+    requires { ⌜ Kept (now words) × PagesIn strips (figures (now words)) (now counts) × GoodLists strips (length (now counts)) (stripsFrom 0 (now counts)) × (1 ≤ need) × (need ≤ 8) × (need ≤ length (freeFor strips (stripsFrom 0 (now counts)))) ⌝ }
     ensures { λ _. ⌜ AltersOf strips (rules.grant need) (now (words .entry)) (now (counts .entry)) (now (words .exit)) (now (counts .exit)) ⌝ }
 {
     let packet = lowest_unallocated(counts);
@@ -81,7 +82,7 @@ pub fn allocate(words: &mut [u16], counts: &mut [u32], need: u32)
 
 // An allocation that waits is granted where as many pages are free.
 fn settle(words: &mut [u16], counts: &mut [u32])
-    requires { ⌜ Kept (now words) × PagesIn strips (figures (now words)) (now counts) × GoodLists strips 24 (stripsFrom 0 (now counts)) × (word (now words) 23 ≤ 8) ⌝ }
+    requires { ⌜ Kept (now words) × PagesIn strips (figures (now words)) (now counts) × GoodLists strips (length (now counts)) (stripsFrom 0 (now counts)) × (word (now words) 23 ≤ 8) ⌝ }
     ensures { λ _. ⌜ AltersOf strips rules.settle (now (words .entry)) (now (counts .entry)) (now (words .exit)) (now (counts .exit)) ⌝ }
 {
     let need = words[WAITING] as u32;
@@ -96,7 +97,7 @@ fn settle(words: &mut [u16], counts: &mut [u32])
 
 // The packet's pages are given back: an allocation that waits may get them.
 pub fn give_back(words: &mut [u16], counts: &mut [u32], packet: Packet)
-    requires { ⌜ Kept (now words) × PagesIn strips (figures (now words)) (now counts) × GoodLists strips 24 (stripsFrom 0 (now counts)) × (packet .0 < 24) × (word (now words) 23 ≤ 8) ⌝ }
+    requires { ⌜ Kept (now words) × PagesIn strips (figures (now words)) (now counts) × GoodLists strips (length (now counts)) (stripsFrom 0 (now counts)) × (packet .0 < length (now counts)) × (word (now words) 23 ≤ 8) ⌝ }
     ensures { λ _. ⌜ AltersOf strips (rules.giveBack (packet .0)) (now (words .entry)) (now (counts .entry)) (now (words .exit)) (now (counts .exit)) ⌝ }
 {
     make_free(words, counts, packet);
@@ -105,10 +106,11 @@ pub fn give_back(words: &mut [u16], counts: &mut [u32], packet: Packet)
 
 // No packet has pages, and all queues are empty, whatever the figures were.
 pub fn reset(words: &mut [u16], counts: &mut [u32], queues: &mut [u8])
-    requires { ⌜ Kept (now words) × (length (now counts) ≡ 24) × (length (now queues) ≡ 72) ⌝ }
-    ensures { λ _. ⌜ EmptiedOf strips (now (words .entry)) (now (words .exit)) (now (counts .exit)) (now (queues .exit)) ⌝ }
+    requires { ⌜ Kept (now words) × IsPart (length (now counts)) × (length (now queues) ≡ 72) ⌝ }
+    ensures { λ _. ⌜ EmptiedOf strips (length (now (counts .entry))) (now (words .entry)) (now (words .exit)) (now (counts .exit)) (now (queues .exit)) ⌝ }
 {
+    let packets = counts.len() as u8;
     sets::cleared(counts); // all 0: "no pages", of a count as of a set
     queues::empty(queues);
-    store_none(words);
+    store_none(words, packets);
 }

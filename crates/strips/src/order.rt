@@ -1,4 +1,5 @@
-// Is a state in order: what refusal 16 asks of a chip of strips, but for the length of its memory.
+// Is a record in order: what refusal 16 asks of a chip of strips, but for the length of its memory.
+use guard::empty_from;
 use guard::queues_good;
 use guard::request_good;
 use guard::words_good;
@@ -11,16 +12,16 @@ ghost use Prim.Native.Nat.{_<_};
 ghost use lib.ListN.{length};
 ghost use Rattle.rules.specs.Chip.{strips};
 ghost use Rattle.lists.specs.Facts.{Decides};
-ghost use Rattle.state.specs.Promise.{ReadyOf};
+ghost use Rattle.state.specs.Entry.{HoldsOf};
 ghost use Rattle.strips.specs.Counts.{GoodCounts};
 
 // As many pages as a strip has.
 const STRIP_PAGES: u32 = 8;
 
-// Has no packet more pages than its strip, and are the packets' pages and the free ones 24 in sum?
-fn counts_good(counts: &[u32], free: u32) -> bool
+// Has no packet more pages than its strip, and are the packets' pages and the free ones as many as the part has?
+fn counts_good(counts: &[u32], free: u32, size: usize) -> bool
     requires { ⌜ (length (now counts) ≡ 24) × (free < 256) ⌝ }
-    ensures { λ b. ⌜ Decides b (GoodCounts free (now (counts .entry))) ⌝ }
+    ensures { λ b. ⌜ Decides b (GoodCounts size free (now (counts .entry))) ⌝ }
 {
     let mut sum = free;
     let mut k = 0;
@@ -32,26 +33,30 @@ fn counts_good(counts: &[u32], free: u32) -> bool
         sum += pages;
         k += 1;
     }
-    sum == 24
+    sum as usize == size
 }
 
-// MIR has 24 in its low byte, and how many pages are free in its high byte. The queues ask of a packet only whether it has pages, so a check made for page sets
-// may be handed the counts: 0 is "no pages" in both.
+// MIR has the part's number of packets in its low byte, and how many pages are free in its high byte. The queues ask of a packet only whether it has pages, so a check made
+// for page sets may be handed the counts: 0 is "no pages" in both.
 pub fn well_formed(words: &[u16], counts: &[u32], queues: &[u8]) -> bool
     requires { ⌜ (length (now words) ≡ 32) × (length (now counts) ≡ 24) × (length (now queues) ≡ 72) ⌝ }
-    ensures { λ b. ⌜ Decides b (ReadyOf strips (now (words .entry)) (now (counts .entry)) (now (queues .entry))) ⌝ }
+    ensures { λ b. ⌜ Decides b (HoldsOf strips (now (words .entry)) (now (counts .entry)) (now (queues .entry))) ⌝ }
 {
-    if !words_good(words) {
+    let size = state::size_in(words);
+    if !state::is_part(size) {
         return false;
     }
-    if bits::low_byte(words[MIR]) != 24 {
+    if !words_good(words, size) {
         return false;
     }
-    if !counts_good(counts, free_count(words)) {
+    if !empty_from(counts, size) {
+        return false;
+    }
+    if !counts_good(counts, free_count(words), size) {
         return false;
     }
     if !request_good(words[MIR], words[PACKET], words[WAITING]) {
         return false;
     }
-    queues_good(words, counts, queues)
+    queues_good(words, counts, queues, size)
 }

@@ -5,7 +5,7 @@ use Prim.Native.Nat.{ℕ, _≤_}
 use native.Mathlib.Omega.{arith}
 use lib.ListN.{length, take}
 use lib.Seq.{length-take-le}
-use Rattle.rules.specs.Chip.{Layout, powerUp}
+use Rattle.rules.specs.Chip.{Layout, paged, powered}
 use Rattle.rules.specs.Bench as rules
 use Rattle.state.specs.declared.Answer.{Answer}
 use Rattle.state.specs.View.{viewOf}
@@ -53,6 +53,6 @@ module _ {l : Layout} {w s q mem wire : List ℕ} {have : ℕ} {out w′ s′ q�
 pub gathered-once : {wire bytes wire₁ wire₂ : List ℕ} {have count have₁ have₂ : ℕ} {a b : Answer} → Gathered wire have bytes count a wire₁ have₁ → Gathered wire have bytes count b wire₂ have₂
     → (a ≡ b) × (take have₁ wire₁ ≡ take have₂ wire₂) × (have₁ ≡ have₂)
 gathered-once {wire₁ = wire₁} {wire₂ = wire₂} {a = a} {b = b} p r =
-    let e = sym (p .rule powerUp []) ∙ r .rule powerUp [] in
+    let e = sym (p .rule (powered paged 24) []) ∙ r .rule (powered paged 24) [] in
     let g = ap (λ (x : rules.Answered). x .after .gathered) e in
     (one-answer a b (ap (λ (x : rules.Answered). x .reply) e), g, same-place wire₁ wire₂ (omega (arith, p .few, p .room)) (omega (arith, r .few, r .room)) g)

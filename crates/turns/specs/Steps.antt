@@ -13,7 +13,7 @@ use Rattle.rules.specs.Step.{driver, frame, sent, link, step}
 use Rattle.rules.specs.Bench as rules
 use Rattle.receive.specs.Arrivals.{frameOf}
 use Rattle.state.specs.declared.Answer.{Answer}
-use Rattle.state.specs.declared.Answer.the-variants.{CutShort}
+use Rattle.state.specs.declared.Answer.the-variants.{OutsideLimits, CutShort}
 use Rattle.state.specs.View.{viewOf}
 use Rattle.state.specs.Entry.{RightOf}
 use Rattle.records.specs.declared.event.Event.{Event}
@@ -53,6 +53,11 @@ module _ {l : Layout} {w s q mem wire : List ℕ} {have : ℕ} (out : List ℕ) 
       → TurnsOf l (rules.answer (rules.send x) (holding (viewOf l w s q mem) (take have wire) out)) a w′ s′ q′ mem′ wire have out′
   unfolding rules.answer
   send-turns x p = turning _ have (h .few) p (p .output)
+
+  -- a part is asked for too late, or not at all
+  pub part-turns : (x : ℕ) → TurnsOf l (rules.answer (rules.part x) (holding (viewOf l w s q mem) (take have wire) out)) OutsideLimits w s q mem wire have out
+  unfolding rules.answer
+  part-turns x = record { reply = refl; bench = refl; held = h }
 
   pub unknown-turns : TurnsOf l (rules.answer rules.unknown (holding (viewOf l w s q mem) (take have wire) out)) CutShort w s q mem wire have out
   unfolding rules.answer

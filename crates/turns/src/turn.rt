@@ -47,7 +47,7 @@ fn frame_ends(
     chip::arrived(words, sets, queues, memory, &wire[..n], align)
 }
 
-// A record of eight bytes.
+// A record of eight bytes, behind the first or one that asks for no part.
 pub fn answer(
     words: &mut [u16],
     sets: &mut [u32],
@@ -80,6 +80,8 @@ pub fn answer(
             deferral,
         ),
         Event::Link(up) => chip::linked(words, sets, queues, memory, up),
+        // the part is asked for by record 1 alone, which is answered elsewhere
+        Event::Part(_) => Answer::OutsideLimits,
         Event::Unknown => Answer::CutShort,
     }
 }

@@ -11,10 +11,10 @@ use lib.ListN.{length, getD, set, take, length-replicate}
 use lib.Seq.{getD-set-same}
 use Rattle.rules.specs.Bits.{bit, lowByte}
 use Rattle.rules.specs.Lists.{member, some?, firstEmpty}
-use Rattle.rules.specs.Chip.{Registers, Layout, paged, strips, Chip, size, pageNumbers, free, powered, powerUp, stripsUp}
+use Rattle.rules.specs.Chip.{Registers, Layout, paged, strips, Chip, size, pageNumbers, free, powered}
 use Rattle.rules.specs.Fields.{setRx, setCompletion, inRegisters, inPool, inMemory}
 use Rattle.rules.specs.Answers.{Effect, Turn}
-use Rattle.rules.specs.WellFormed.{Distinct, Waits, Formed, WellFormed}
+use Rattle.rules.specs.WellFormed.{Distinct, Waits, Formed}
 use Rattle.rules.specs.Packet.{putBytes}
 use Rattle.rules.specs.Mmu.{Command, nothing, allocate, reset, removeRx, removeAndRelease, release, enqueue, resetTx, unknown, decode, perform, allot}
 use Rattle.rules.specs.Interrupts.{acknowledge}
@@ -229,9 +229,3 @@ module _ (n : ℕ) (c : Chip) (w : Fits n c) where
 -- Power-up.
 pub powered-fits : (l : Layout) (n : ℕ) → Fits n (powered l n)
 powered-fits l n = (emptied l n (reset-numbers n) refl, length-replicate (256 * pageNumbers l n) 0)
-
-pub power-up-well : WellFormed powerUp
-power-up-well = powered-fits paged 24 .0
-
-pub strips-well : WellFormed stripsUp
-strips-well = powered-fits strips 24 .0

@@ -8,6 +8,8 @@ pub mod Count
 pub mod Layouts
 -- Refusal 16 is given exactly where the memory has another length or the chip is not well formed.
 pub mod Fit
+-- The two parts (document 02, W9): a step is that of the part that the chip is.
+pub mod Parts
 -- Each step keeps a chip well formed; power-up is.
 pub mod Pool
 pub mod Settle

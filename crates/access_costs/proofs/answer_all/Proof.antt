@@ -1,13 +1,15 @@
 -- The state is in order before and after each record.
 use Prim.Native.Nat.{_-_, _≤_}
 use native.Mathlib.Omega.{arith}
+use mathlib.Core.Path.{_≡_}
+use lib.ListN.{length}
 use Rattle.state.specs.Entry.{InOrder}
 use borrow.Author.Needs.{needs}
 use Rattle.access_costs.proofs.answer_all.Statement.{statement}
 use Rattle.access_costs.proofs.answer_all.Tie as tie
 
 abbrev Inv-loop : tie.InvT-loop
-Inv-loop words₀ sets₀ queues₀ memory₀ frame input sum₀ k₀ k-end words sets queues memory sum k = (k ≤ k-end) × InOrder words sets queues memory
+Inv-loop words₀ sets₀ queues₀ memory₀ frame input sum₀ k₀ k-end words sets queues memory sum k = (k ≤ k-end) × (InOrder words sets queues memory × (length sets ≡ 24))
 
 abbrev μ-loop : tie.MeasureT-loop
 μ-loop words₀ sets₀ queues₀ memory₀ frame input sum₀ k₀ k-end words sets queues memory sum k = k-end - k

@@ -1,6 +1,7 @@
 -- By the guard: a record that is not in order has its line down, and of one that is the line is that of its words.
 use mathlib.Core.Path.{refl}
 use Rattle.rules.specs.Chip.{paged}
+use Rattle.state.specs.Entry.{ofPart}
 use Rattle.chip.specs.Rights.{not-in, is-in}
 use borrow.Author.Needs.{needs}
 use Rattle.chip.proofs.entries.line.Statement.{statement}
@@ -25,12 +26,12 @@ slice-aggregate-line-up : tie.Need-slice-aggregate-line-up
 slice-aggregate-line-up c = search needs
 
 line-up-requires : tie.Need-line-up-requires
-line-up-requires c κs = let o = is-in (c .before .before .well-formed .ensures) (c .before .if1 .left) .sound in (o .kept, (_, o .queues))
+line-up-requires c κs = let o = is-in (c .before .before .well-formed .ensures) (c .before .if1 .left) .ready .sound in (o .kept, (_, o .queues))
 
 returns-2 : tie.Need-returns-2
 returns-2 c = let e = c .before .before in
     let p = e .before .before .before .before .before .before .before .before .args in
-    record { up = λ o mem. c .line-up .ensures paged (p .p .sets) (p .q .slots) mem (o .sound .queues); down = λ n. absurd (n (is-in (e .before .well-formed .ensures) (e .if1 .left))) }
+    record { up = λ o mem. c .line-up .ensures paged (ofPart (p .r .words) (p .p .sets)) (p .q .slots) mem (o .ready .sound .queues); down = λ n. absurd (n (is-in (e .before .well-formed .ensures) (e .if1 .left))) }
 
 pub line-spec : {M : Type 1} → statement M
 line-spec =

@@ -4,14 +4,14 @@ use borrow.Author.Needs.{needs}
 use Rattle.chip.proofs.sends.send.Statement.{statement}
 use Rattle.chip.proofs.sends.send.Tie as tie
 
-finished-requires : tie.Need-finished-requires
+finished-requires : tie.Need-finished-whole-requires
 finished-requires c κs = let t = c .before .before .before .before .before in t .before .in-order .ensures .sound (t .if1 .taken)
 
 returns : tie.Need-returns
 returns c = let f = c .before .before .before .before .before .before .before in
     let t = f .before .before .before .before .before .before in
     let o = t .before in
-    answered _ (o .in-order .ensures .sound (t .if1 .taken)) (f .finished .ensures)
+    answered _ (o .in-order .ensures .sound (t .if1 .taken)) (f .finished-whole .ensures)
 
 returns-2 : tie.Need-returns-2
 returns-2 c = damaged _ (not-so (c .before .in-order .ensures) (c .if1 .left))

@@ -5,7 +5,7 @@ use mathlib.Core.List.{[], map}
 use Prim.Native.Nat.{ℕ, _<_}
 use native.Mathlib.Omega.{arith}
 use borrow.Author.Tests.{not-true, not-false}
-use lib.ListN.{getD}
+use lib.ListN.{length, getD}
 use Rattle.rules.specs.Lists.{some?}
 use Rattle.rules.specs.Chip.{paged, Chip}
 use Rattle.rules.specs.Answers.{did}
@@ -18,6 +18,7 @@ use Rattle.pool.specs.Queues.{queued-told}
 use Rattle.pool.specs.Pages.{alters-sound}
 use Rattle.commands.specs.Steps.{releases}
 use Rattle.commands.specs.Returns.{performs, refuses-5, refuses-6, goes-ahead}
+use Rattle.wellformed.specs.Parts.{part-few}
 use borrow.Author.Needs.{needs}
 use Rattle.commands.proofs.register.do_release.Statement.{statement}
 use Rattle.commands.proofs.register.do_release.Tie as tie
@@ -26,14 +27,14 @@ use Rattle.commands.proofs.register.do_release.Tie as tie
 abbrev after : Chip → Chip
 after x = rules.giveBack (x .regs .numbers .packet) x
 
--- the packet has pages, so its number is below 24
+-- the packet has pages, so its number is one of the part's
 there : (c : tie.Else1) → some? (getD (map pagesOf (c .before .before .before .before .before .before .before .args .sets .now)) (c .before .before .before .named .result .0) []) ≡ true
 there c = sym (c .before .is-allocated .ensures) ∙ not-false _ (c .if1 .left)
 
-small : (c : tie.Else1) → c .before .before .before .named .result .0 < 24
+small : (c : tie.Else1) → c .before .before .before .named .result .0 < length (c .before .before .before .before .before .before .before .args .sets .now)
 small c =
     let s = c .before .before .before .before .before .before .before in
-    omega (arith, has-small (map pagesOf (s .args .sets .now)) _ (there c), lists-length (s .args .sets .now), s .pre .1 .many)
+    omega (arith, has-small (map pagesOf (s .args .sets .now)) _ (there c), lists-length (s .args .sets .now))
 
 returns : tie.Need-returns
 returns c = λ q r.
@@ -44,7 +45,7 @@ is-queued-requires : tie.Need-is-queued-requires
 is-queued-requires c κs =
     let e = c .before in
     let s = e .before .before .before .before .before .before .before in
-    (s .pre .0 .whole, omega (arith, small e))
+    (s .pre .0 .whole, omega (arith, small e, part-few (s .pre .1 .part)))
 
 returns-2 : tie.Need-returns-2
 returns-2 c = λ q r.

@@ -2,6 +2,7 @@
 use mathlib.Core.Logic.{inl, inr, ⊎-elim}
 use Prim.Native.Nat.{_/_}
 use native.Mathlib.Omega.{arith}
+use borrow.Author.Needs.{needs}
 use Rattle.lists.specs.Facts.{always, agrees, eq-decides}
 use Rattle.sets.specs.Good.{never}
 use Rattle.guard.proofs.words.packet_good.Statement.{statement}
@@ -19,4 +20,4 @@ returns-3 c =
     agrees (eq-decides (p / 256) 0x80) (λ e. (omega arith, inr e)) (λ w. ⊎-elim (λ l. absurd (omega arith)) (λ e. e) (w .1))
 
 pub packet-good-spec : {M : Type 1} → statement M
-packet-good-spec = tie.close (tie.spec returns returns-2 returns-3)
+packet-good-spec = tie.close (tie.spec returns (λ c. search needs) returns-2 returns-3)

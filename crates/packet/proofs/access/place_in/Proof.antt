@@ -12,7 +12,7 @@ use Rattle.packet.proofs.access.place_in.Statement.{statement}
 use Rattle.packet.proofs.access.place_in.Tie as tie
 
 lowest-page-requires : tie.Need-lowest-page-requires
-lowest-page-requires c κs = rest-some (c .args .rest) (c .args .rest) 0 refl (c .pre .0)
+lowest-page-requires c κs = rest-some (c .args .rest) (c .args .rest) 0 refl (c .pre)
 
 returns : tie.Need-returns
 unfolding place
@@ -22,7 +22,7 @@ returns c =
     let f : a % 256 / 256 ≡ 0 = omega arith in
     let g : a % 256 % 256 ≡ a % 256 = omega arith in
     let e : c .before .before .lowest-page .result .0 ≡ getD (pagesOf (s .args .rest)) 0 0 = c .before .before .lowest-page .ensures in
-    (rw (f, g) (ap (λ (p : ℕ). p * 256 + a % 256) e), omega (arith, e, below-at 24 (pagesOf (s .args .rest)) 0 (s .pre .1) (s .pre .0)))
+    (rw (f, g) (ap (λ (p : ℕ). p * 256 + a % 256) e), λ n below. omega (arith, e, below-at n (pagesOf (s .args .rest)) 0 below (s .pre)))
 
 pub place-in-spec : {M : Type 1} → statement M
 place-in-spec =

@@ -15,7 +15,7 @@ returns c =
     let s = c .before .before .before .before in
     let a = s .args .at .0 in
     let e = ap (λ (p : ℕ). p * 256 + a % 256) (c .before .before .nth-page .ensures) in
-    (e, omega (arith, e, place-room 24 (pagesOf (s .args .pages)) a (s .pre .1) (s .pre .0)))
+    (e, λ n below. omega (arith, e, place-room n (pagesOf (s .args .pages)) a below (s .pre)))
 
 pub place-of-spec : {M : Type 1} → statement M
 place-of-spec =

@@ -8,8 +8,12 @@ use lib.Seq.{sets}
 use Rattle.rules.specs.Bits.{lowByte, highByte}
 use Rattle.lists.specs.Bytes.{put-within}
 use Rattle.sets.specs.Views.{pagesOf}
+use Rattle.packet.proofs.Facts.{room-place}
 use Rattle.packet.proofs.access.write_status.Statement.{statement}
 use Rattle.packet.proofs.access.write_status.Tie as tie
+
+inside : tie.Need-put-word-requires
+inside c κs = omega (arith, room-place (c .before .before .before .pre) _ 0 (c .place-in .ensures .1))
 
 returns : tie.Need-returns
 returns c =
@@ -23,4 +27,4 @@ returns c =
     ∙ sym (put-within (pagesOf (s .args .pages)) bytes 0 m (omega arith))
 
 pub write-status-spec : {M : Type 1} → statement M
-write-status-spec = tie.close (tie.spec (λ c κs. search needs) (λ c κs. search needs) (λ c. search needs) returns)
+write-status-spec = tie.close (tie.spec (λ c κs. search needs) inside (λ c. search needs) returns)

@@ -6,8 +6,12 @@ use native.Mathlib.Omega.{arith}
 use lib.ListN.{length, take, drop, length-take, length-drop}
 use Rattle.lists.specs.Bytes.{get-within, over-all}
 use Rattle.sets.specs.Views.{pagesOf}
+use Rattle.packet.proofs.Facts.{room-place}
 use Rattle.packet.proofs.fill.copy_page.Statement.{statement}
 use Rattle.packet.proofs.fill.copy_page.Tie as tie
+
+inside : (p : tie.After-place-in) → let s = p .before .before .before in p .place-in .result + (256 - s .args .at .0 % 256) ≤ length (s .args .memory .now)
+inside p = room-place (p .before .before .before .pre .1) _ _ (p .place-in .ensures .1)
 
 returns : tie.Need-returns
 returns c =
@@ -20,7 +24,7 @@ returns c =
     let i = p .place-in .result in
     let n = length out in
     let e : i + n - i ≡ n = omega arith in
-    let r : i + n ≤ length m = omega (arith, s .pre .0, s .pre .1 .whole, p .place-in .ensures .1) in
+    let r : i + n ≤ length m = omega (arith, s .pre .0, room-place (s .pre .1) i (s .args .at .0) (p .place-in .ensures .1)) in
     let h : n ≤ length (take (i + n - i) (drop i m)) = simp (length-take, length-drop) (omega arith) in
     c .before .before .fill-part .ensures
     ∙ over-all (take (i + n - i) (drop i m)) out h
@@ -33,10 +37,10 @@ copy-page-spec =
     tie.close
     (tie.spec
     (λ c κs. search needs)
+    (λ c. omega (arith, inside c, c .before .before .before .pre .0))
     (λ c. search needs)
-    (λ c. search needs)
-    (λ c. search needs)
-    (λ c. search needs)
-    (λ c κs. search needs)
+    (λ c. omega (arith, inside (c .before), c .before .before .before .before .pre .0))
+    (λ c. omega (arith, inside (c .before), c .before .before .before .before .pre .0))
+    (λ c κs. let p = c .before .before in simp (length-take, length-drop) (omega (arith, inside p, p .before .before .before .pre .0)))
     (λ c. search needs)
     returns)

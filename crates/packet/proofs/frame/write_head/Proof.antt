@@ -2,14 +2,27 @@
 use borrow.Author.Needs.{needs}
 use mathlib.Core.Path.{_≡_, ap, ap₂, sym, _∙_}
 use mathlib.Core.List.{List, [], _∷_}
-use Prim.Native.Nat.{ℕ, suc, _+_}
+use Prim.Native.Nat.{ℕ, suc, _+_, _≤_}
+use lib.ListN.{length}
 use native.Mathlib.Omega.{arith}
-use lib.Seq.{sets}
+use lib.Seq.{sets, length-sets}
 use Rattle.rules.specs.Bits.{lowByte, highByte}
 use Rattle.lists.specs.Bytes.{put-within}
 use Rattle.sets.specs.Views.{pagesOf}
+use Rattle.packet.proofs.Facts.{room-place}
 use Rattle.packet.proofs.frame.write_head.Statement.{statement}
 use Rattle.packet.proofs.frame.write_head.Tie as tie
+
+inside : (p : tie.After-place-in) → let s = p .before .before in p .place-in .result + 256 ≤ length (s .args .memory .now)
+inside p = room-place (p .before .before .pre) _ 0 (p .place-in .ensures .1)
+
+-- the first word leaves memory as long
+again : tie.Need-put-word-requires-2
+again c κs =
+    let q = c .before .before .before in
+    let p = q .before .before in
+    let x = p .before .before .args in
+    omega (arith, inside p, ap length (q .put-word .ensures) ∙ length-sets (x .memory .now) (p .place-in .result) (lowByte (x .status) ∷ highByte (x .status) ∷ []))
 
 returns : tie.Need-returns
 returns c =
@@ -33,8 +46,8 @@ write-head-spec =
     tie.close
     (tie.spec
     (λ c κs. search needs)
-    (λ c κs. search needs)
-    (λ c. search needs)
-    (λ c κs. search needs)
+    (λ c κs. omega (arith, inside (c .before)))
+    (λ c. omega (arith, inside (c .before .before .before .before .before)))
+    again
     (λ c. search needs)
     returns)

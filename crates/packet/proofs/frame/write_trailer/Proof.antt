@@ -2,15 +2,20 @@
 use borrow.Author.Needs.{needs}
 use mathlib.Core.Path.{ap, sym, _∙_}
 use mathlib.Core.List.{List, [], _∷_}
-use Prim.Native.Nat.{ℕ, _+_, _%_}
+use Prim.Native.Nat.{ℕ, _+_, _-_, _%_, _≤_}
+use lib.ListN.{length}
 use native.Mathlib.Omega.{arith}
 use lib.Seq.{sets}
 use Rattle.rules.specs.Bits.{lowByte, highByte}
 use Rattle.rules.specs.Packet.{putBytes}
 use Rattle.lists.specs.Bytes.{put-within, trailer-odd, trailer-even}
 use Rattle.sets.specs.Views.{pagesOf}
+use Rattle.packet.proofs.Facts.{room-place}
 use Rattle.packet.proofs.frame.write_trailer.Statement.{statement}
 use Rattle.packet.proofs.frame.write_trailer.Tie as tie
+
+inside : (p : tie.After-place-in) → let s = p .before .before in p .place-in .result + (256 - (s .args .n + 4) % 256) ≤ length (s .args .memory .now)
+inside p = room-place (p .before .before .pre .1) _ _ (p .place-in .ensures .1)
 
 returns : tie.Need-returns
 unfolding putBytes
@@ -41,9 +46,9 @@ write-trailer-spec =
     (λ c. search needs)
     (λ c. search needs)
     (λ c κs. search needs)
-    (λ c. search needs)
+    (λ c. omega (arith, inside (c .before)))
     (λ c. search needs)
     returns
-    (λ c κs. search needs)
+    (λ c κs. omega (arith, inside (c .before .before), c .before .if1 .left))
     (λ c. search needs)
     returns-2)

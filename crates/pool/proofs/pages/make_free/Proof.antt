@@ -1,4 +1,4 @@
--- The packet's pages are some of the 24, and none of those that are free.
+-- The packet's pages are some of the part's, and none of those that are free.
 use mathlib.Core.Path.{_≡_, refl, ap, _∙_}
 use mathlib.Core.List.{List, [], map}
 use Prim.Native.Nat.{ℕ, _+_, _≤_, _<_}
@@ -8,6 +8,7 @@ use lib.ListN.{length, getD, set}
 use Rattle.rules.specs.Bits.{wordOf}
 use Rattle.rules.specs.Chip.{paged, freeFor}
 use Rattle.rules.specs.WellFormed.{GoodPages}
+use Rattle.wellformed.specs.Parts.{part-few}
 use Rattle.wellformed.specs.Layouts.{GoodLists, free-total, free-set, back-lists}
 use Rattle.sets.specs.Views.{pagesOf}
 use Rattle.sets.specs.Lists.{list-at, lists-length}
@@ -17,15 +18,16 @@ use Rattle.pool.proofs.Paged.{good-lists}
 use Rattle.pool.proofs.pages.make_free.Statement.{statement}
 use Rattle.pool.proofs.pages.make_free.Tie as tie
 
-lists : (s : List ℕ) → length s ≡ 24 → GoodPages 24 (map pagesOf s) → GoodLists paged 24 (map pagesOf s)
-lists s long = good-lists (map pagesOf s) (lists-length s ∙ long)
+lists : (s : List ℕ) → GoodPages (length s) (map pagesOf s) → GoodLists paged (length s) (map pagesOf s)
+lists s = good-lists (length s) (map pagesOf s) (lists-length s)
 
--- they are 24 at most, with those that are free
-few : (s : List ℕ) (k : ℕ) → k < 24 → GoodLists paged 24 (map pagesOf s) → length (freeFor paged (map pagesOf s)) + length (getD (map pagesOf s) k []) ≤ 24
+-- they are no more than all, with those that are free
+few : (s : List ℕ) (k : ℕ) → k < length s → GoodLists paged (length s) (map pagesOf s) → length (freeFor paged (map pagesOf s)) + length (getD (map pagesOf s) k []) ≤ length s
 few s k number good =
     let ls = map pagesOf s in
-    let after = back-lists 24 ls k number paged good in
-    omega (arith, free-set paged 24 ls k [] number good after, free-total paged 24 (set ls k []) after)
+    let n = length s in
+    let after = back-lists n ls k number paged good in
+    omega (arith, free-set paged n ls k [] number good after, free-total paged n (set ls k []) after)
 
 more-requires : tie.Need-more-requires
 unfolding wordOf
@@ -34,7 +36,7 @@ more-requires c κs =
     let s = n .before .before .before .before .before in
     let k = s .args .packet .0 in
     let p = s .pre in
-    omega (arith, n .page-count .ensures, ap length (list-at (s .args .sets .now) k), p .1 .free, few (s .args .sets .now) k (p .3) (lists (s .args .sets .now) (p .1 .many) (p .2)))
+    omega (arith, n .page-count .ensures, ap length (list-at (s .args .sets .now) k), p .1 .free, few (s .args .sets .now) k (p .3) (lists (s .args .sets .now) (p .2)), part-few (p .1 .part))
 
 returns : tie.Need-returns
 returns c =
@@ -44,8 +46,8 @@ returns c =
     let s = n .before .before .before .before .before in
     let k = s .args .packet .0 in
     let p = s .pre in
-    let good = lists (s .args .sets .now) (p .1 .many) (p .2) in
-    repaged (λ ls. set ls k []) k [] _ _ _ _ _ (store-mir _ (s .args .words .now) (p .0)) (p .3) good (back-lists 24 _ k (p .3) paged good) (p .1) (λ i. omega (arith, c .slice-known5 .given i)) r refl
+    let good = lists (s .args .sets .now) (p .2) in
+    repaged (λ ls. set ls k []) k [] _ _ _ _ _ (store-mir _ (s .args .words .now) (p .0)) (p .3) good (back-lists (length (s .args .sets .now)) _ k (p .3) paged good) (p .1) (λ i. omega (arith, c .slice-known5 .given i)) r refl
     (omega (arith, m .more .ensures, n .page-count .ensures, ap length (list-at (s .args .sets .now) k)))
 
 pub make-free-spec : {M : Type 1} → statement M

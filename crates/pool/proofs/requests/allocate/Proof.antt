@@ -1,5 +1,5 @@
 -- Where enough pages are free a number is, and it gets the lowest of them.
-use mathlib.Core.Path.{_≡_, ap, _∙_}
+use mathlib.Core.Path.{_≡_, ap, sym, subst, _∙_}
 use mathlib.Core.List.{map}
 use Prim.Native.Nat.{ℕ}
 use native.Mathlib.Omega.{arith}
@@ -8,6 +8,8 @@ use lib.ListN.{length, set, take}
 use Rattle.rules.specs.Lists.{firstEmpty}
 use Rattle.rules.specs.Chip.{paged, freeFor}
 use Rattle.rules.specs.Fields.{setResult, setWaiting, setPages, inRegisters, inPool}
+use Rattle.rules.specs.WellFormed.{GoodPages}
+use Rattle.wellformed.specs.Parts.{part-few}
 use Rattle.sets.specs.Views.{pagesOf}
 use Rattle.sets.specs.Lists.{lists-length}
 use Rattle.state.specs.View.{view}
@@ -16,14 +18,13 @@ use Rattle.pool.proofs.Paged.{grantable}
 use Rattle.pool.proofs.requests.allocate.Statement.{statement}
 use Rattle.pool.proofs.requests.allocate.Tie as tie
 
-full : (s : tie.Start) → length (map pagesOf (s .args .sets .now)) ≡ 24
-full s = lists-length (s .args .sets .now) ∙ s .pre .1 .many
-
 may : (s : tie.Start) → let ls = map pagesOf (s .args .sets .now) in Grantable (firstEmpty ls) (s .args .need) ls
-may s = grantable (map pagesOf (s .args .sets .now)) (s .args .need) (full s) (s .pre .2) (s .pre .3) (s .pre .4) (s .pre .5)
+may s = grantable (map pagesOf (s .args .sets .now)) (s .args .need) (subst (λ (n : ℕ). GoodPages n (map pagesOf (s .args .sets .now))) (sym (lists-length (s .args .sets .now))) (s .pre .2)) (s .pre .3) (s .pre .4) (s .pre .5)
 
 cast-number : tie.Need-cast-number
-cast-number c = record { fits = omega (arith, may (c .before .before .before .before) .number, c .lowest-unallocated .ensures) }
+cast-number c =
+    let s = c .before .before .before .before in
+    record { fits = omega (arith, may s .number, lists-length (s .args .sets .now), part-few (s .pre .1 .part), c .lowest-unallocated .ensures) }
 
 grant-requires : tie.Need-grant-requires
 grant-requires c κs =

@@ -1,6 +1,7 @@
 -- The pages are free, then what waits is settled.
-use mathlib.Core.Path.{_≡_, ap}
-use mathlib.Core.List.{List, map}
+use mathlib.Core.Path.{_≡_, ap, sym, _∙_}
+use mathlib.Core.List.{List, [], map}
+use lib.ListN.{length, length-set}
 use native.Mathlib.Omega.{arith}
 use borrow.Author.Needs.{needs}
 use Rattle.rules.specs.Chip.{Registers}
@@ -8,7 +9,7 @@ use Rattle.rules.specs.WellFormed.{GoodPages}
 use Rattle.wellformed.specs.Pages.{back-good}
 use Rattle.sets.specs.Views.{pagesOf}
 use Rattle.sets.specs.Lists.{lists-length}
-use Rattle.pool.specs.Pages.{repages-alters, alters-both}
+use Rattle.pool.specs.Pages.{repages-size, repages-alters, alters-both}
 use Rattle.pool.proofs.requests.give_back.Statement.{statement}
 use Rattle.pool.proofs.requests.give_back.Tie as tie
 
@@ -17,8 +18,11 @@ settle-requires c κs =
     let s = c .before .before .before .before .before .before .before .before .before .before .before in
     let k = s .args .packet .0 in
     let free = c .before .before .before .before .before .before .make-free .ensures in
-    let good = back-good 24 _ k (omega (arith, lists-length (s .args .sets .now), s .pre .1 .many, s .pre .3)) (s .pre .2) in
-    (free .kept, free .sets, rw (free .pages) good, omega (arith, s .pre .4, ap (λ (r : Registers). r .numbers .waiting) (free .regs)))
+    let ss = s .args .sets .now in
+    let n = length ss in
+    let good = back-good n _ k (omega (arith, lists-length ss, s .pre .3)) (s .pre .2) in
+    let same = repages-size free [] (length-set (map pagesOf ss) k []) in
+    (free .kept, free .sets, rw (same, free .pages) good, omega (arith, s .pre .4, ap (λ (r : Registers). r .numbers .waiting) (free .regs)))
 
 returns : tie.Need-returns
 returns c = alters-both (repages-alters (c .before .before .before .before .before .before .before .before .before .before .before .make-free .ensures)) (c .before .before .before .before .settle .ensures)

@@ -6,6 +6,7 @@ use mathlib.Core.List.{List, [], _∷_, _++_, map}
 use Prim.Native.Nat.{ℕ, _≤_, _<_}
 use native.Mathlib.Omega.{arith}
 use lib.ListN.{length, take}
+use Rattle.wellformed.specs.Parts.{part-few}
 use Rattle.rules.specs.Chip.{paged, freeFor}
 use Rattle.rules.specs.Fields.{setRx, inPool}
 use Rattle.rules.specs.Receive.{dataLength, needed}
@@ -45,7 +46,9 @@ status-of-requires c κs =
     (t .long, judged-good t)
 
 number-small : (l : tie.After-lowest-unallocated) → l .lowest-unallocated .result < 24
-number-small l = omega (arith, l .lowest-unallocated .ensures, storable.number-small (start (l .before .before .before .before) .pre .0))
+number-small l =
+    let t = start (l .before .before .before .before) .pre .0 in
+    omega (arith, l .lowest-unallocated .ensures, storable.number-small t, part-few (t .ready .sound .sets .part))
 
 -- where the packet number and the data length are known
 abbrev number : tie.After-pages-for → tie.After-lowest-unallocated

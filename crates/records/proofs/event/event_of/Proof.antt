@@ -45,18 +45,23 @@ returns-8 c = let e : Kind (c .before .before .before .before) 8 = c .before .ma
 
 returns-9 : tie.Need-returns-9
 unfolding eventOf
-returns-9 c =
+returns-9 c = let e : Kind (c .before .before .before .before) 9 = c .before .match .keys9 in rw e
+
+returns-10 : tie.Need-returns-10
+unfolding eventOf
+returns-10 c =
     let k = at (c .before .before .before .args .bytes .now) 0 in
     let n = c .match .rest in
     rw (
-      ne-eqb k 1 (n .0 .0 .0 .0 .0 .0 .0 .1),
-      ne-eqb k 2 (n .0 .0 .0 .0 .0 .0 .1),
-      ne-eqb k 3 (n .0 .0 .0 .0 .0 .1),
-      ne-eqb k 4 (n .0 .0 .0 .0 .1),
-      ne-eqb k 5 (n .0 .0 .0 .1),
-      ne-eqb k 6 (n .0 .0 .1),
-      ne-eqb k 7 (n .0 .1),
-      ne-eqb k 8 (n .1),
+      ne-eqb k 1 (n .0 .0 .0 .0 .0 .0 .0 .0 .1),
+      ne-eqb k 2 (n .0 .0 .0 .0 .0 .0 .0 .1),
+      ne-eqb k 3 (n .0 .0 .0 .0 .0 .0 .1),
+      ne-eqb k 4 (n .0 .0 .0 .0 .0 .1),
+      ne-eqb k 5 (n .0 .0 .0 .0 .1),
+      ne-eqb k 6 (n .0 .0 .0 .1),
+      ne-eqb k 7 (n .0 .0 .1),
+      ne-eqb k 8 (n .0 .1),
+      ne-eqb k 9 (n .1),
     )
 
 pub event-of-spec : {M : Type 1} → statement M
@@ -81,6 +86,7 @@ event-of-spec =
     (λ c. search needs)
     (λ c. search needs)
     (λ c. search needs)
+    (λ c. search needs)
     returns
     returns-2
     returns-3
@@ -89,4 +95,5 @@ event-of-spec =
     returns-6
     returns-7
     returns-8
-    returns-9)
+    returns-9
+    returns-10)

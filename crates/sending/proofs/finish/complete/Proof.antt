@@ -27,7 +27,7 @@ retire-requires c κs =
     let o = s .pre .0 .sound in
     let e = t .after-send .ensures in (
       omega (arith, e .0, head-small (s .pre .0) (s .pre .1)),
-      record { kept = e .1 .kept; queues = e .1 .queues; sets = record { many = o .sets .many; free = e .1 .free ∙ o .sets .free; small = o .sets .small } },
+      record { kept = e .1 .kept; queues = e .1 .queues; sets = record { part = o .sets .part; free = e .1 .free ∙ o .sets .free; small = o .sets .small } },
       s .pre .0 .well .pages,
       λ f. omega (arith, s .pre .4 f, same-completion (e .1) (o .queues)),
       omega (arith, waits-few (s .pre .0), ap (λ (c : Chip). c .regs .numbers .waiting) (e .1 .chip paged [] [])),

@@ -9,6 +9,7 @@ use native.Mathlib.Omega.{arith}
 use borrow.Author.Tests.{leb-false, ltb-false}
 use lib.Dec.{leb, ltb}
 use lib.ListN.{length, getD}
+use Rattle.wellformed.specs.Parts.{part-few}
 use Rattle.rules.specs.Bits.{bit}
 use Rattle.rules.specs.Chip.{Chip, pagesAt}
 use Rattle.rules.specs.Send.{byteCount, good, autoRelease, noPlace}
@@ -114,7 +115,8 @@ open-completion : (p : tie.After-put-out) → let f = full-at p in f .before .be
 open-completion p e =
     let f = full-at p in
     let n = word (words (begun f)) 9 in
-    leb-false 24 n (sym (ap (λ (b : Bool). not b && leb 24 n) e) ∙ sym (f .is-full .ensures) ∙ p .before .before .before .before .if4 .left)
+    let size = length (begun f .args .sets .now) in
+    omega (arith, part-few (begun f .pre .0 .sound .sets .part), leb-false size n (sym (ap (λ (b : Bool). not b && leb size n) e) ∙ sym (f .is-full .ensures) ∙ p .before .before .before .before .if4 .left))
 
 returns : tie.Need-returns
 returns c =

@@ -1,4 +1,4 @@
--- Between two reads the chip is held in order, fewer than eight bytes are kept, and no slice has changed its length; each turn reads a byte at least, so the loop ends.
+-- Between two reads the chip is held in order, no more than eight bytes are kept, and no slice has changed its length; each turn answers a record or reads a byte, so the loop ends.
 use borrow.Author.Needs.{needs}
 use mathlib.Core.Path.{_≡_, refl, sym, _∙_}
 use Prim.Native.Nat.{_+_, _*_, _-_, _/_, _≤_, _<_}
@@ -11,19 +11,21 @@ use Rattle.serving.proofs.serve.serve_from.Statement.{statement}
 use Rattle.serving.proofs.serve.serve_from.Tie as tie
 
 abbrev Inv-loop : tie.InvT-loop
-Inv-loop program watching words₀ sets₀ queues₀ memory₀ wire₀ out₀ input₀ lines₀ have₀ end₀ number₀ kept₀ words sets queues memory wire out input lines have end number kept =
-    Held words sets queues memory wire have × (kept < 8) × (1 ≤ number)
+Inv-loop program watching words₀ sets₀ queues₀ memory₀ wire₀ out₀ input₀ lines₀ left first have₀ end₀ number₀ kept₀ words sets queues memory wire out input lines have end number kept =
+    Held words sets queues memory wire have × (kept ≤ 8) × (1 ≤ number)
     × (length words ≡ length words₀) × (length sets ≡ length sets₀) × (length queues ≡ length queues₀) × (length memory ≡ length memory₀)
     × (length wire ≡ length wire₀) × (length out ≡ length out₀) × (length input ≡ length input₀) × (length lines ≡ length lines₀)
 
 abbrev μ-loop : tie.MeasureT-loop
-μ-loop program watching words₀ sets₀ queues₀ memory₀ wire₀ out₀ input₀ lines₀ have₀ end₀ number₀ kept₀ words sets queues memory wire out input lines have end number kept = 73786976294838206472 - (8 * number + kept)
+μ-loop program watching words₀ sets₀ queues₀ memory₀ wire₀ out₀ input₀ lines₀ left first have₀ end₀ number₀ kept₀ words sets queues memory wire out input lines have end number kept = 83010348331692982280 - (9 * number + kept)
 
 loop-holds : tie.Need-loop-holds Inv-loop μ-loop
-loop-holds c = (c .before .before .before .before .before .before .before .before .before .pre .0 .0, search needs, search needs, refl, refl, refl, refl, refl, refl, refl, refl)
+loop-holds c =
+    let p = c .before .before .before .before .before .before .before .before .before .pre in
+    (p .0 .0, p .1 .4, p .1 .5, refl, refl, refl, refl, refl, refl, refl, refl)
 
-read-more-requires : tie.Need-read-more-requires Inv-loop μ-loop
-read-more-requires c κs = let v = c .before .before .loop .inv in omega (arith, v .1, v .9, c .before .before .before .before .before .before .before .before .before .before .before .before .pre .1 .0)
+more-requires : tie.Need-more-requires Inv-loop μ-loop
+more-requires c κs = let v = c .before .before .loop .inv in (v .1, omega (arith, v .9, c .before .before .before .before .before .before .before .before .before .before .before .before .pre .1 .0))
 
 finish-requires : tie.Need-finish-requires Inv-loop μ-loop
 finish-requires c κs =
@@ -34,9 +36,9 @@ finish-requires c κs =
       (room-within (c .before .before .before .before .before .before .before .before .before .before .before .before .before .before .before .before .before .before .before .args .watching) {n = length (c .before .before .before .before .before .before .before .before .before .before .before .before .before .before .before .before .before .before .before .args .input .now) / 8} (omega (arith, p .1 .0)) (omega (arith, v .10, p .1 .2)), omega (arith, v .10, p .1 .3), v .2, c .before .before .before .before .before .before .before .before .loop-test .taken),
     )
 
--- where bytes were read, so far is the buffer filled
-filled : (c : tie.After-known-told Inv-loop μ-loop) → (c .before .before .before .before .before .before .before .before .loop .kept < c .before .reading .given .0 .0) × (c .before .reading .given .0 .0 ≤ length (c .before .before .before .before .before .before .before .before .loop .input))
-filled c = c .before .before .before .before .before .read-more .ensures .0 (c .before .reading .given .0 .0) (c .before .reading .given .1)
+-- where there are bytes, so far is the buffer filled
+filled : (c : tie.After-known-told Inv-loop μ-loop) → (c .before .before .before .before .before .before .before .before .loop .kept < c .before .reading .given .0 .0 + c .before .reading .given .0 .0 / 8) × (c .before .reading .given .0 .0 ≤ length (c .before .before .before .before .before .before .before .before .loop .input))
+filled c = c .before .before .before .before .before .more .ensures (c .before .reading .given .0 .0) (c .before .reading .given .1)
 
 slice-reshare-prefix-answer-all : tie.Need-slice-reshare-prefix-answer-all Inv-loop μ-loop
 slice-reshare-prefix-answer-all c = omega (arith, c .before .before .before .before .before .before .before .before .before .before .before .input .given, filled (c .before .before .before .before .before .before .before) .1)
@@ -102,7 +104,7 @@ serve-from-spec =
     Inv-loop
     μ-loop
     loop-holds
-    read-more-requires
+    more-requires
     (λ c. search needs)
     finish-requires
     (λ c. c .before .before .before .before .before .before .before .before .before .before .before .before .loop .inv .3)

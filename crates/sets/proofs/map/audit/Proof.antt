@@ -4,11 +4,12 @@ use borrow.Author.Tests.{ltb-false}
 use mathlib.Core.Path.{_≡_, refl, ap, sym, subst, _∙_}
 use mathlib.Core.Bool.{Bool, false, _||_}
 use mathlib.Core.List.{List, map}
-use Prim.Native.Nat.{ℕ, _-_, _^_, _%_, _≤_, _<_}
+use Prim.Native.Nat.{ℕ, _-_, _*_, _^_, _%_, _≤_, _<_}
 use native.Mathlib.Omega.{arith}
 use native.Mathlib.Nat.{le-trans}
 use lib.Bits.{or-lt}
 use lib.Count.{ones, ones-le}
+use lib.Pow.{pow-mono, pow-pos}
 use lib.Dec.{ltb}
 use lib.ListN.{length, getD}
 use Rattle.rules.specs.Bits.{bit}
@@ -25,13 +26,17 @@ abbrev At : Type 0
 At = tie.After-joined
 
 abbrev Sets : At → List ℕ
-Sets a = a .before .before .args .sets .now
+Sets a = a .before .before .before .args .sets .now
+
+-- how many pages the part has
+abbrev Count : At → ℕ
+Count a = a .before .before .before .args .count
 
 abbrev Owned : At → ℕ
 Owned a = let r = a .joined .result in join4 (r .0) (r .1) (r .2) (r .3)
 
 fits : (a : At) (i : ℕ) → getD (Sets a) i 0 < 4294967296
-fits a i = omega (arith, a .before .shared-slice-known .given i)
+fits a i = omega (arith, a .before .before .shared-slice-known .given i)
 
 owned-is : (a : At) → Owned a ≡ joined (Sets a)
 owned-is a =
@@ -42,34 +47,42 @@ owned-is a =
 sum-is : (a : At) → a .joined .result .4 ≡ total (Sets a) % 2 ^ 32
 sum-is a = let r = a .joined .result in sum-all (Sets a) (r .0) (r .1) (r .2) (r .3) (r .4) (a .joined .ensures) (omega arith)
 
--- Where the sets are below 2 ^ 24 and their sum is what they own.
-module _ (a : At) (low : Owned a < 16777216) (same : a .joined .result .4 ≡ Owned a) where
-  good : {b : Bool} → Decides b (FewEach 8 (Sets a)) → Decides b (GoodPages 24 (map pagesOf (Sets a)))
+-- Of few pages 24 sets do not wrap.
+no-wrap : (n k : ℕ) → n ≤ 24 → k ≡ 24 → k * 2 ^ n < 2 ^ 32
+no-wrap n k h e = rw e (let m : 2 ^ n ≤ 2 ^ 24 = pow-mono h in omega (arith, m))
+
+-- Where the sets are below 2 ^ n and their sum is what they own.
+module _ (a : At) (low : Owned a < 2 ^ Count a) (same : a .joined .result .4 ≡ Owned a) where
+  good : {b : Bool} → Decides b (FewEach 8 (Sets a)) → Decides b (GoodPages (Count a) (map pagesOf (Sets a)))
   good =
-      few-good 24 (Sets a) (fits a) (omega (arith, a .before .before .pre)) (subst (λ (x : ℕ). x < 16777216) (owned-is a) low)
+      few-good (Count a) (Sets a) (fits a) (no-wrap (Count a) _ (a .before .before .before .pre .1) (a .before .before .before .pre .0)) (subst (λ (x : ℕ). x < 2 ^ Count a) (owned-is a) low)
       (sym (sum-is a) ∙ same ∙ owned-is a)
 
-  free : 24 - ones (Owned a) ≡ length (freeBelow 24 (map pagesOf (Sets a)))
-  free = let e = free-rest (Owned a) (map pagesOf (Sets a)) (λ p. ap (bit p) (owned-is a) ∙ joined-owned (Sets a) (fits a) p) 24 low in omega (arith, e)
+  free : Count a - ones (Owned a) ≡ length (freeBelow (Count a) (map pagesOf (Sets a)))
+  free = let e = free-rest (Owned a) (map pagesOf (Sets a)) (λ p. ap (bit p) (owned-is a) ∙ joined-owned (Sets a) (fits a) p) (Count a) low in omega (arith, e)
+
+-- What is owned is no more than all pages.
+low-of : (c : tie.Else1) → let a = c .before .before .before in Owned a < 2 ^ Count a
+low-of c = let a = c .before .before .before in omega (arith, a .before .all-pages .ensures, pow-pos (Count a), c .if1 .left)
 
 returns : tie.Need-returns
 returns c =
     let a = c .before .before .before in
-    (joined-high 24 (Sets a) (fits a) (subst (λ (x : ℕ). 16777216 ≤ x) (owned-is a) (c .if1 .taken)), refl)
+    (joined-high (Count a) (Sets a) (fits a) (subst (λ (x : ℕ). 2 ^ Count a ≤ x) (owned-is a) (omega (arith, a .before .all-pages .ensures, c .if1 .taken))), refl)
 
 returns-2 : tie.Need-returns-2
 returns-2 c =
     let a = c .before .before .before .before .before in
-    (sum-other 24 (Sets a) (fits a) (omega arith) (λ e. omega (arith, c .if2 .taken, sum-is a ∙ e ∙ sym (owned-is a))), refl)
+    (sum-other (Count a) (Sets a) (fits a) (omega (arith, a .before .before .before .pre .1)) (λ e. omega (arith, c .if2 .taken, sum-is a ∙ e ∙ sym (owned-is a))), refl)
 
 sub-free : tie.Need-sub-free
-sub-free c = ones-le 24 (Owned (c .before .before .before .before .before)) (search needs)
+sub-free c = let a = c .before .before .before .before .before in ones-le (Count a) (Owned a) (low-of (c .before .before))
 
 returns-3 : tie.Need-returns-3
 returns-3 c =
     let b = c .before in
     let a = b .before .before .before .before .before in
-    let low : Owned a < 16777216 = search needs in
+    let low = low-of (b .before .before) in
     let same : a .joined .result .4 ≡ Owned a = omega arith in
     let few : ones (Owned a) ≤ 8 = omega arith in
     (good a low same (always (λ i. le-trans (ones-joined (Sets a) i) (subst (λ (x : ℕ). ones x ≤ 8) (owned-is a) few))), free a low same)
@@ -79,7 +92,7 @@ returns-4 c =
     let f = c .before in
     let b = f .before .before .before .before .before .before .before in
     let a = b .before .before .before .before .before in
-    let low : Owned a < 16777216 = search needs in
+    let low = low-of (b .before .before) in
     let same : a .joined .result .4 ≡ Owned a = omega arith in
     (good a low same (always (f .few-each .ensures .sound (c .if5 .taken))), free a low same)
 
@@ -88,7 +101,7 @@ returns-5 c =
     let f = c .before in
     let b = f .before .before .before .before .before .before .before in
     let a = b .before .before .before .before .before in
-    let low : Owned a < 16777216 = search needs in
+    let low = low-of (b .before .before) in
     let same : a .joined .result .4 ≡ Owned a = omega arith in
     (good a low same (refutes (f .few-each .ensures) (λ few. few) (c .if5 .left)), refl)
 
@@ -110,7 +123,7 @@ returns-6 c =
     let b = c1 .before .before in
     let a = b .before .before .before .before .before in
     let r = a .joined .result in
-    let low : Owned a < 16777216 = search needs in
+    let low = low-of (b .before .before) in
     let same : a .joined .result .4 ≡ Owned a = omega arith in
     let n = none-of (c1 .crowded .result) (c2 .crowded2 .result) (c3 .crowded3 .result) (c4 .crowded4 .result) (c .if4 .left) in
     let few =
@@ -123,4 +136,4 @@ pub audit-spec : {M : Type 1} → statement M
 audit-spec =
     tie.close
     (tie.spec
-    (λ c κs. search needs) returns returns-2 sub-free returns-3 (λ c κs. search needs) (λ c κs. search needs) (λ c κs. search needs) (λ c κs. search needs) (λ c κs. search needs) returns-4 returns-5 returns-6)
+    (λ c κs. search needs) (λ c κs. search needs) returns returns-2 (λ c. search needs) sub-free returns-3 (λ c κs. search needs) (λ c κs. search needs) (λ c κs. search needs) (λ c κs. search needs) (λ c κs. search needs) returns-4 returns-5 returns-6)

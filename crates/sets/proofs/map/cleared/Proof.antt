@@ -1,10 +1,12 @@
 -- The sets before k are 0, and those from k on as they were.
 use borrow.Author.Needs.{needs}
-use mathlib.Core.Path.{_≡_, refl, ap, _∙_}
+use mathlib.Core.Path.{_≡_, refl, ap, sym, _∙_}
+use mathlib.Core.Logic.{⊎-elim}
 use mathlib.Core.List.{List, [], map, _++_, append-nil}
 use Prim.Native.Nat.{ℕ, _≤_, _-_}
 use native.Mathlib.Omega.{arith}
-use lib.ListN.{length, drop, set, replicate, drop-of-length-le, length-set}
+use lib.ListN.{length, getD, drop, set, replicate, drop-of-length-le, length-set}
+use lib.Seq.{set-getD}
 use borrow.Author.Fill.{fill-more}
 use Rattle.sets.specs.Views.{pagesOf}
 use Rattle.sets.specs.Lists.{empty-sets}
@@ -20,12 +22,19 @@ abbrev μ-loop : tie.MeasureT-loop
 loop-holds : tie.Need-loop-holds Inv-loop μ-loop
 loop-holds c = (search needs, refl, refl)
 
+-- where a set is 0, nothing is stored
+same-where-0 : (l : List ℕ) (k : ℕ) → getD l k 0 ≡ 0 → l ≡ set l k 0
+same-where-0 l k e = sym (set-getD l k 0) ∙ ap (λ (x : ℕ). set l k x) e
+
+stored : (c : tie.Joined1 Inv-loop μ-loop) → c .if1 .sets ≡ set (c .before .before .before .loop .sets) (c .before .before .before .loop .k) 0
+stored c = ⊎-elim (λ t. t .1) (λ f. f .1 ∙ same-where-0 _ _ (f .0 .left)) (c .if1 .came)
+
 loop-again : tie.Need-loop-again Inv-loop μ-loop
 loop-again c =
-    let a = c .before in
+    let a = c .before .before .before in
     let k = a .loop .k in
     let entry = a .before .args .sets .now in
-    (search needs, length-set (a .loop .sets) k 0 ∙ a .loop .inv .1, ap (λ (l : List ℕ). set l k 0) (a .loop .inv .2) ∙ fill-more k 0 entry (search needs))
+    (search needs, ap length (stored c) ∙ length-set (a .loop .sets) k 0 ∙ a .loop .inv .1, stored c ∙ ap (λ (l : List ℕ). set l k 0) (a .loop .inv .2) ∙ fill-more k 0 entry (search needs))
 
 returns : tie.Need-returns Inv-loop μ-loop
 returns c =
@@ -39,4 +48,4 @@ returns c =
     ∙ ap (λ (n : ℕ). replicate n []) e
 
 pub cleared-spec : {M : Type 1} → statement M
-cleared-spec = tie.close (tie.spec Inv-loop μ-loop loop-holds (λ c. search needs) (λ c. search needs) (λ c. search needs) (λ c. search needs) loop-again (λ c. search needs) returns)
+cleared-spec = tie.close (tie.spec Inv-loop μ-loop loop-holds (λ c. search needs) (λ c. search needs) (λ c. search needs) (λ c. search needs) (λ c. search needs) (λ c. search needs) loop-again (λ c. search needs) returns)

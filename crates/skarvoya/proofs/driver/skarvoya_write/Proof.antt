@@ -1,7 +1,7 @@
 -- By what the check says, then as the write says; its width is the one that was asked for.
 use Rattle.rules.specs.Registers as registers
 use Rattle.chip.specs.Rights.{not-in, is-in}
-use Rattle.skarvoya.specs.Called.{refuses, calls, as-wide}
+use Rattle.skarvoya.specs.Called.{refuses, calls-wide}
 use borrow.Author.Needs.{needs}
 use Rattle.skarvoya.proofs.driver.skarvoya_write.Statement.{statement}
 use Rattle.skarvoya.proofs.driver.skarvoya_write.Tie as tie
@@ -9,13 +9,13 @@ use Rattle.skarvoya.proofs.driver.skarvoya_write.Tie as tie
 returns : tie.Need-returns
 returns c = refuses _ (not-in (c .before .before .in-order .ensures) (c .before .if1 .taken)) (c .told .ensures)
 
-write-requires : tie.Need-write-requires
-write-requires c κs = is-in (c .before .before .before .before .before .before .in-order .ensures) (c .before .before .before .before .before .if1 .left)
+write-whole-requires : tie.Need-write-whole-requires
+write-whole-requires c κs = is-in (c .before .before .before .before .before .before .in-order .ensures) (c .before .before .before .before .before .if1 .left)
 
 returns-2 : tie.Need-returns-2
 returns-2 c = let r = c .before .before .before .before .before .before .before .before .before in
     let s = r .before .before .before .before .before .before .before .before .before .before .before .before .before .before .before .before .args in
-    calls _ (is-in (r .before .before .before .before .before .before .before .in-order .ensures) (r .before .before .before .before .before .before .if1 .left)) (as-wide (λ w. registers.write w (s .offset) (s .value)) _ (r .before .width-of .ensures) (r .write .ensures)) (c .told2 .ensures)
+    calls-wide (λ w. registers.write w (s .offset) (s .value)) (is-in (r .before .before .before .before .before .before .before .in-order .ensures) (r .before .before .before .before .before .before .if1 .left)) (r .before .width-of .ensures) (r .write-whole .ensures) (c .told2 .ensures)
 
 pub skarvoya-write-spec : {M : Type 1} → statement M
 skarvoya-write-spec =
@@ -29,7 +29,7 @@ skarvoya-write-spec =
     (λ c. search needs)
     returns
     (λ c κs. search needs)
-    write-requires
+    write-whole-requires
     (λ c κs. search needs)
     (λ c. search needs)
     (λ c. search needs)

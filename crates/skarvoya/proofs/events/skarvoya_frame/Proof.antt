@@ -8,11 +8,11 @@ use Rattle.skarvoya.proofs.events.skarvoya_frame.Tie as tie
 returns : tie.Need-returns
 returns c = refuses _ (not-in (c .before .before .in-order .ensures) (c .before .if1 .taken)) (c .told .ensures)
 
-arrived-requires : tie.Need-arrived-requires
-arrived-requires c κs = is-in (c .before .before .before .before .before .in-order .ensures) (c .before .before .before .before .if1 .left)
+arrived-whole-requires : tie.Need-arrived-whole-requires
+arrived-whole-requires c κs = is-in (c .before .before .before .before .before .in-order .ensures) (c .before .before .before .before .if1 .left)
 
 returns-2 : tie.Need-returns-2
-returns-2 c = let r = c .before .before .before .before .before .before .before .before .before in calls _ (is-in (r .before .before .before .before .before .before .in-order .ensures) (r .before .before .before .before .before .if1 .left)) (r .arrived .ensures) (c .told2 .ensures)
+returns-2 c = let r = c .before .before .before .before .before .before .before .before .before in calls _ (is-in (r .before .before .before .before .before .before .in-order .ensures) (r .before .before .before .before .before .if1 .left)) (r .arrived-whole .ensures) (c .told2 .ensures)
 
 pub skarvoya-frame-spec : {M : Type 1} → statement M
 skarvoya-frame-spec =
@@ -25,7 +25,7 @@ skarvoya-frame-spec =
     (λ c. search needs)
     (λ c. search needs)
     returns
-    arrived-requires
+    arrived-whole-requires
     (λ c κs. search needs)
     (λ c. search needs)
     (λ c. search needs)

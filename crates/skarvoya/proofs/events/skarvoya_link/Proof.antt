@@ -8,13 +8,13 @@ use Rattle.skarvoya.proofs.events.skarvoya_link.Tie as tie
 returns : tie.Need-returns
 returns c = refuses _ (not-in (c .before .before .in-order .ensures) (c .before .if1 .taken)) (c .told .ensures)
 
-linked-requires : tie.Need-linked-requires
-linked-requires c κs = is-in (c .before .before .in-order .ensures) (c .before .if1 .left)
+linked-whole-requires : tie.Need-linked-whole-requires
+linked-whole-requires c κs = is-in (c .before .before .in-order .ensures) (c .before .if1 .left)
 
 returns-2 : tie.Need-returns-2
 returns-2 c =
     let r = c .before .before .before in
-    calls _ (is-in (r .before .before .before .in-order .ensures) (r .before .before .if1 .left)) (r .linked .ensures) (c .told2 .ensures)
+    calls _ (is-in (r .before .before .before .in-order .ensures) (r .before .before .if1 .left)) (r .linked-whole .ensures) (c .told2 .ensures)
 
 pub skarvoya-link-spec : {M : Type 1} → statement M
 skarvoya-link-spec =
@@ -24,7 +24,7 @@ skarvoya-link-spec =
     (λ c κs. search needs)
     (λ c. search needs)
     returns
-    linked-requires
+    linked-whole-requires
     (λ c κs. search needs)
     (λ c. search needs)
     returns-2)

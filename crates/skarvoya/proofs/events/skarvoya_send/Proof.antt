@@ -8,11 +8,11 @@ use Rattle.skarvoya.proofs.events.skarvoya_send.Tie as tie
 returns : tie.Need-returns
 returns c = refuses _ (not-in (c .before .before .in-order .ensures) (c .before .if1 .taken)) (c .told .ensures)
 
-finished-requires : tie.Need-finished-requires
-finished-requires c κs = is-in (c .before .before .before .before .before .before .in-order .ensures) (c .before .before .before .before .before .if1 .left)
+finished-whole-requires : tie.Need-finished-whole-requires
+finished-whole-requires c κs = is-in (c .before .before .before .before .before .before .in-order .ensures) (c .before .before .before .before .before .if1 .left)
 
 returns-2 : tie.Need-returns-2
-returns-2 c = let r = c .before .before .before .before .before .before .before .before .before .before .before in calls _ (is-in (r .before .before .before .before .before .before .before .in-order .ensures) (r .before .before .before .before .before .before .if1 .left)) (r .finished .ensures) (c .told2 .ensures)
+returns-2 c = let r = c .before .before .before .before .before .before .before .before .before .before .before in calls _ (is-in (r .before .before .before .before .before .before .before .in-order .ensures) (r .before .before .before .before .before .before .if1 .left)) (r .finished-whole .ensures) (c .told2 .ensures)
 
 pub skarvoya-send-spec : {M : Type 1} → statement M
 skarvoya-send-spec =
@@ -25,7 +25,7 @@ skarvoya-send-spec =
     (λ c. search needs)
     (λ c. search needs)
     returns
-    finished-requires
+    finished-whole-requires
     (λ c κs. search needs)
     (λ c. search needs)
     (λ c. search needs)

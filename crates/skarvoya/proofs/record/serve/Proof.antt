@@ -21,13 +21,9 @@ returns c = let e = c .before .before in
     let s = a .before .before .before .before .before .before .before .before .before .before .before .before .before .before .before .before in
     let text = e .line-at .ensures .0 in
     record {
-      served = record {
-        held = a .answer .ensures .held;
-        bench = a .answer .ensures .bench;
-        text = taken (omega arith) text ∙ ap (λ (k : ℕ). line k (record { number = p .printed .result .0; value = p .printed .result .1 })) (counter-number (n .counter-of .ensures)) ∙ ap (line (s .args .number)) ((λ i. record { number = p .printed .ensures .0 i; value = p .printed .ensures .1 i }) ∙ a .answer .ensures .reply);
-        fits = omega (arith, e .line-at .ensures .1, c .before .line .given, s .pre .1);
-      };
-      reply = a .answer .ensures .reply;
+      turns = a .turn .ensures;
+      text = taken (omega arith) text ∙ ap (λ (k : ℕ). line k (record { number = p .printed .result .0; value = p .printed .result .1 })) (counter-number (n .counter-of .ensures)) ∙ ap (line (s .args .number)) ((λ i. record { number = p .printed .ensures .0 i; value = p .printed .ensures .1 i }) ∙ a .turn .ensures .reply);
+      fits = omega (arith, e .line-at .ensures .1, c .before .line .given, s .pre .1);
       behind = rest-stays text;
     }
 
@@ -35,7 +31,7 @@ pub serve-spec : {M : Type 1} → statement M
 serve-spec =
     tie.close
     (tie.spec
-    (λ c κs. search needs)
+    (λ c κs. c .before .before .before .before .before .before .before .before .before .before .before .before .before .before .before .pre .0)
     (λ c κs. search needs)
     (λ c κs. search needs)
     line-at-requires

@@ -22,7 +22,7 @@ returns c =
     f .fill-part .ensures
     ∙ ap (λ (l : List ℕ). over l (x .out .now))
     (ap₂ (λ (n j : ℕ). take n (drop j m)) e (p .place-of .ensures)
-    ∙ sym (strip-get (x .packet .0) 8 (x .len) 4 m (omega (arith, s .pre .1 .within)) (omega (arith, s .pre .1 .whole, s .pre .1 .number, s .pre .1 .within))))
+    ∙ sym (strip-get (x .packet .0) 8 (x .len) 4 m (omega (arith, s .pre .1 .within)) (omega (arith, s .pre .1 .there, s .pre .1 .within))))
 
 pub copy-out-spec : {M : Type 1} → statement M
 copy-out-spec =

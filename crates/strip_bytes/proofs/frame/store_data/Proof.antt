@@ -31,7 +31,7 @@ returns c =
     let k = i + x .n - i in
     let e : length bytes ≡ x .n = length-take-le (x .n) (x .frame .now) (s .pre .0) in
     ap (λ (y : List ℕ). take i m ++ (y ++ drop k (drop i m))) (f .fill-part .ensures)
-    ∙ part-over m i k bytes (omega (arith, e)) (omega (arith, s .pre .1 .whole, s .pre .1 .number, s .pre .1 .within, p .place-of .ensures))
+    ∙ part-over m i k bytes (omega (arith, e)) (omega (arith, s .pre .1 .there, s .pre .1 .within, p .place-of .ensures))
     ∙ ap (λ (j : ℕ). sets m j bytes) (p .place-of .ensures)
     ∙ sym (strip-put (x .packet .0) 8 bytes 4 m (omega (arith, e, s .pre .1 .within)))
 

@@ -4,14 +4,14 @@ use borrow.Author.Needs.{needs}
 use Rattle.strip_chip.proofs.driver.access.Statement.{statement}
 use Rattle.strip_chip.proofs.driver.access.Tie as tie
 
-accessed-requires : tie.Need-accessed-requires
-accessed-requires c κs = let t = c .before .before .before .before in t .before .in-order .ensures .sound (t .if1 .taken)
+accessed-whole-requires : tie.Need-accessed-whole-requires
+accessed-whole-requires c κs = let t = c .before .before .before .before in t .before .in-order .ensures .sound (t .if1 .taken)
 
 returns : tie.Need-returns
 returns c = let f = c .before .before .before .before .before in
     let t = f .before .before .before .before .before in
     let o = t .before in
-    answered _ (o .in-order .ensures .sound (t .if1 .taken)) (f .accessed .ensures)
+    answered _ (o .in-order .ensures .sound (t .if1 .taken)) (f .accessed-whole .ensures)
 
 returns-2 : tie.Need-returns-2
 returns-2 c = damaged _ (not-so (c .before .in-order .ensures) (c .if1 .left))
@@ -27,7 +27,7 @@ access-spec =
     (λ c. search needs)
     (λ c. search needs)
     (λ c. search needs)
-    accessed-requires
+    accessed-whole-requires
     (λ c. search needs)
     returns
     (λ c. search needs)

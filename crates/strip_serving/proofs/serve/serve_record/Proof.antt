@@ -4,6 +4,8 @@ use mathlib.Core.Path.{ap, _∙_}
 use native.Mathlib.Omega.{arith}
 use Rattle.rules.specs.Bench.{line}
 use Rattle.records.specs.Parts.{taken}
+use Rattle.turns.specs.Served.{asked}
+use Rattle.strip_serving.specs.First.{answered-plain, served-as}
 use Rattle.strip_serving.proofs.serve.serve_record.Statement.{statement}
 use Rattle.strip_serving.proofs.serve.serve_record.Tie as tie
 
@@ -16,12 +18,12 @@ returns c =
     let a = c .before .before .before .before .before .before .before .before .before .before .before .before .before .before .before .before .before .answer .ensures in
     let p = c .before .before .before .printed .ensures in
     let e = c .before .before .line-at .ensures in
-    record {
-      held = a .held;
-      bench = a .bench;
-      text = taken (omega arith) (e .0) ∙ ap (line (s .args .counter .number)) ((λ i. record { number = p .0 i; value = p .1 i }) ∙ a .reply);
-      fits = omega (arith, e .1, c .before .line .given, s .pre .1 .2);
-    }
+    served-as
+    (answered-plain (s .args .counter .number) (asked (s .args .bytes .now)) _ (s .pre .1 .3))
+    (a .held)
+    (a .bench)
+    (taken (omega arith) (e .0) ∙ ap (line (s .args .counter .number)) ((λ i. record { number = p .0 i; value = p .1 i }) ∙ a .reply))
+    (omega (arith, e .1, c .before .line .given, s .pre .1 .2))
 
 pub serve-record-spec : {M : Type 1} → statement M
 serve-record-spec =

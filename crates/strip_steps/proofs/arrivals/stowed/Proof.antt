@@ -9,6 +9,7 @@ use lib.ListN.{length}
 use Rattle.rules.specs.Chip.{strips}
 use Rattle.rules.specs.Fields.{setRx, inPool}
 use Rattle.rules.specs.Receive.{dataLength, needed}
+use Rattle.wellformed.specs.Parts.{part-few}
 use Rattle.wellformed.specs.Pool.{good-lists}
 use Rattle.state.specs.View.{registersIn}
 use Rattle.pool.specs.Queues.{rejoins-chip, rejoins-sound}
@@ -50,7 +51,7 @@ is-need p =
     needed-by (registersIn (start d .args .words .now)) _ _ _ (d .data-length .ensures) (p .pages-for .ensures)
 
 lowest-unallocated-requires : tie.Need-lowest-unallocated-requires
-lowest-unallocated-requires c κs = start (c .before .before .before) .pre .0 .ready .sound .sets .many
+lowest-unallocated-requires c κs = part-few (start (c .before .before .before) .pre .0 .ready .sound .sets .part)
 
 grant-requires : tie.Need-grant-requires
 grant-requires p κs =

@@ -5,7 +5,7 @@ use mathlib.Core.List.{[]}
 use Prim.Native.Nat.{ℕ, _<_}
 use native.Mathlib.Omega.{arith}
 use borrow.Author.Tests.{not-true, not-false}
-use lib.ListN.{getD}
+use lib.ListN.{length, getD}
 use Rattle.rules.specs.Lists.{some?}
 use Rattle.rules.specs.Chip.{strips, Chip}
 use Rattle.rules.specs.Answers.{did}
@@ -16,6 +16,7 @@ use Rattle.pool.specs.Queues.{queued-told}
 use Rattle.pool.specs.Pages.{alters-sound}
 use Rattle.commands.specs.Steps.{releases}
 use Rattle.commands.specs.Returns.{performs, refuses-5, refuses-6, goes-ahead}
+use Rattle.wellformed.specs.Parts.{part-few}
 use borrow.Author.Needs.{needs}
 use Rattle.strip_steps.proofs.orders.do_release.Statement.{statement}
 use Rattle.strip_steps.proofs.orders.do_release.Tie as tie
@@ -24,11 +25,11 @@ use Rattle.strip_steps.proofs.orders.do_release.Tie as tie
 abbrev after : Chip → Chip
 after x = rules.giveBack (x .regs .numbers .packet) x
 
--- the packet has pages, so its number is below 24
+-- the packet has pages, so its number is one of the part's
 there : (c : tie.Else1) → some? (getD (stripsFrom 0 (c .before .before .before .before .before .before .before .args .counts .now)) (c .before .before .before .named .result .0) []) ≡ true
 there c = sym (c .before .is-allocated .ensures) ∙ not-false _ (c .if1 .left)
 
-small : (c : tie.Else1) → c .before .before .before .named .result .0 < 24
+small : (c : tie.Else1) → c .before .before .before .named .result .0 < length (c .before .before .before .before .before .before .before .args .counts .now)
 small c =
     let s = c .before .before .before .before .before .before .before in
     omega (arith, has-small (stripsFrom 0 (s .args .counts .now)) _ (there c), s .pre .2 .count)
@@ -42,7 +43,7 @@ is-queued-requires : tie.Need-is-queued-requires
 is-queued-requires c κs =
     let e = c .before in
     let s = e .before .before .before .before .before .before .before in
-    (s .pre .0 .whole, omega (arith, small e))
+    (s .pre .0 .whole, omega (arith, small e, part-few (s .pre .1 .part)))
 
 returns-2 : tie.Need-returns-2
 returns-2 c = λ q r.

@@ -50,7 +50,7 @@ retire-requires c κs =
     let o = s .pre .0 .sound in
     let e = t .after-send .ensures .1 in (
       omega (arith, s .pre .3, head-small (s .pre .0) (s .pre .2)),
-      record { kept = e .kept; queues = e .queues; sets = record { many = o .sets .many; free = e .free ∙ o .sets .free; small = o .sets .small } },
+      record { kept = e .kept; queues = e .queues; sets = record { part = o .sets .part; free = e .free ∙ o .sets .free; small = o .sets .small } },
       good-lists (s .pre .0 .well),
       λ f. omega (arith, s .pre .5 f, same-completion e (o .queues)),
       omega (arith, waits-few (s .pre .0), ap (λ (c : Chip). c .regs .numbers .waiting) (e .chip strips [] [])),

@@ -9,7 +9,7 @@ use Rattle.strip_steps.proofs.sends.retire.Tie as tie
 -- Part by part, and by no path into the code: a release that leaves MIR is refused at `free` itself.
 returns : tie.Need-returns
 returns c =
-    gives-back (search needs) (search needs) (record { chip = search needs; still = search needs; kept = search needs; sets = record { many = search needs; free = search needs; small = search needs } })
+    gives-back (search needs) (search needs) (record { chip = search needs; still = search needs; kept = search needs; sets = record { part = search needs; free = search needs; small = search needs } })
 
 join-completion-requires : tie.Need-join-completion-requires
 join-completion-requires c κs =

@@ -9,6 +9,7 @@ use native.Mathlib.Omega.{arith}
 use borrow.Author.Tests.{leb-false, ltb-false}
 use lib.Dec.{leb, ltb}
 use lib.ListN.{length, getD}
+use Rattle.wellformed.specs.Parts.{part-few}
 use Rattle.rules.specs.Bits.{bit}
 use Rattle.rules.specs.Chip.{strips, Chip, pagesAt}
 use Rattle.rules.specs.Data.{valueOf}
@@ -81,7 +82,7 @@ few : (t : tie.After-tx-head) → (1 ≤ length (pages t)) × (length (pages t) 
 few t = strip-few (start t .pre .0) (start t .pre .3) (headed t)
 
 inside : (t : tie.After-tx-head) (end : ℕ) → end ≤ 256 * length (pages t) → InStrip end (packet t) (start t .args .memory .now)
-inside t end h = record { whole = start t .pre .1; number = number-small (start t .pre .0) (packet t) (few t .0); within = omega (arith, h, few t .1) }
+inside t end h = record { there = omega (arith, start t .pre .1, number-small (start t .pre .0) (packet t) (few t .0)); within = omega (arith, h, few t .1) }
 
 -- Its byte count, and whether it is usable.
 counted : (r : tie.After-read-word) → let t = head-at r in count r ≡ byteCount (pages t) (start t .args .memory .now)
@@ -122,7 +123,8 @@ open-completion : (p : tie.After-put-out) → let f = full-at p in f .before .be
 open-completion p e =
     let f = full-at p in
     let n = word (words (begun f)) 9 in
-    leb-false 24 n (sym (ap (λ (b : Bool). not b && leb 24 n) e) ∙ sym (f .is-full .ensures) ∙ p .before .before .before .before .if4 .left)
+    let size = length (begun f .args .counts .now) in
+    omega (arith, part-few (begun f .pre .0 .sound .sets .part), leb-false size n (sym (ap (λ (b : Bool). not b && leb size n) e) ∙ sym (f .is-full .ensures) ∙ p .before .before .before .before .if4 .left))
 
 returns : tie.Need-returns
 returns c =

@@ -5,6 +5,7 @@ use borrow.Author.Needs.{needs}
 use lib.ListN.{set, take}
 use Rattle.rules.specs.Chip.{strips, freeFor}
 use Rattle.rules.specs.Fields.{setResult, setWaiting, setPages, inRegisters, inPool}
+use Rattle.wellformed.specs.Parts.{part-few}
 use Rattle.state.specs.View.{stripsFrom, viewOf}
 use Rattle.pool.specs.Pages.{repages-alters, alters-sets, alters-as}
 use Rattle.strips.proofs.counts.allocate.Statement.{statement}
@@ -29,4 +30,4 @@ returns c =
     (first .lowest-unallocated .ensures))
 
 pub allocate-spec : {M : Type 1} → statement M
-allocate-spec = tie.close (tie.spec (λ c κs. search needs) grant-requires (λ c κs. search needs) (λ c. search needs) (λ c. search needs) returns)
+allocate-spec = tie.close (tie.spec (λ c κs. part-few (c .before .before .before .pre .1 .part)) grant-requires (λ c κs. search needs) (λ c. search needs) (λ c. search needs) returns)

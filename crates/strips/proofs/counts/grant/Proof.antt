@@ -37,17 +37,17 @@ module _ (s : tie.Start) where
   abbrev given : List ℕ
   given = take need (freeFor strips ls)
 
-  first : firstEmpty ls < 24
-  first = unallocated strips 24 ls (s .pre .2) (omega (arith, s .pre .4, s .pre .6))
+  first : firstEmpty ls < length counts
+  first = unallocated strips (length counts) ls (s .pre .2) (omega (arith, s .pre .4, s .pre .6))
 
-  number : k < 24
+  number : k < length counts
   number = omega (arith, first, s .pre .3)
 
   none : getD ls k [] ≡ []
   none = ap (λ (j : ℕ). getD ls j []) (s .pre .3) ∙ first-empty ls
 
-  after : GoodLists strips 24 (set ls k given)
-  after = subst (λ (j : ℕ). GoodLists strips 24 (set ls j given)) (sym (s .pre .3)) (granted-lists 24 ls need (s .pre .5) strips (s .pre .2) (s .pre .6) first)
+  after : GoodLists strips (length counts) (set ls k given)
+  after = subst (λ (j : ℕ). GoodLists strips (length counts) (set ls j given)) (sym (s .pre .3)) (granted-lists (length counts) ls need (s .pre .5) strips (s .pre .2) (s .pre .6) first)
 
   -- So many pages from the first of its strip on are those.
   stored : stripsFrom 0 (set counts k need) ≡ set ls k given
@@ -62,7 +62,7 @@ fewer-requires c κs =
     omega (arith, p .1 .free, p .6)
 
 slice-write-counts : tie.Need-slice-write-counts
-slice-write-counts c = let s = c .before .before .before .before .before in omega (arith, number s, s .pre .1 .many)
+slice-write-counts c = number (c .before .before .before .before .before)
 
 returns : tie.Need-returns
 unfolding wordOf

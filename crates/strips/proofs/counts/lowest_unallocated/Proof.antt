@@ -24,12 +24,12 @@ first-none ((p ∷ ps) ∷ ls) zero e = absurd (true≢false e)
 first-none (l ∷ ls) (suc k) e = first-none ls k e
 
 abbrev Inv-loop : tie.InvT-loop
-Inv-loop counts number₀ number = (number ≤ 24) × (firstEmpty (stripsFrom 0 counts) ≡ firstEmpty (drop number (stripsFrom 0 counts)) + number)
+Inv-loop counts number₀ number = (number ≤ length counts) × (firstEmpty (stripsFrom 0 counts) ≡ firstEmpty (drop number (stripsFrom 0 counts)) + number)
 
 abbrev μ-loop : tie.MeasureT-loop
-μ-loop counts number₀ number = 24 - number
+μ-loop counts number₀ number = length counts - number
 
--- A packet with pages is one of the 24.
+-- A packet with pages is one of theirs.
 module _ (c : tie.Then1 Inv-loop μ-loop) where
   abbrev at : tie.At-loop Inv-loop μ-loop
   at = c .before .before
@@ -43,8 +43,8 @@ module _ (c : tie.Then1 Inv-loop μ-loop) where
   in-range : at .loop .number < length ls
   in-range = has-small ls (at .loop .number) has
 
-  below : at .loop .number < 24
-  below = omega (arith, in-range, strips-length 0 (at .before .before .args .counts .now), at .before .before .pre)
+  below : at .loop .number < length (at .before .before .args .counts .now)
+  below = omega (arith, in-range, strips-length 0 (at .before .before .args .counts .now))
 
 loop-again : tie.Need-loop-again Inv-loop μ-loop
 loop-again c = (omega (arith, below c), omega (arith, at c .loop .inv .1, first-on (ls c) (at c .loop .number) (in-range c) (has c)))

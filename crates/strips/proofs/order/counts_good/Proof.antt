@@ -15,10 +15,10 @@ use Rattle.strips.proofs.order.counts_good.Statement.{statement}
 use Rattle.strips.proofs.order.counts_good.Tie as tie
 
 abbrev Inv-loop : tie.InvT-loop
-Inv-loop counts free sum₀ k₀ sum k = (k ≤ 24) × (sum < 256 + 8 * k) × (GoodCounts free counts ↔ GoodCounts sum (drop k counts))
+Inv-loop counts free size sum₀ k₀ sum k = (k ≤ 24) × (sum < 256 + 8 * k) × (GoodCounts size free counts ↔ GoodCounts size sum (drop k counts))
 
 abbrev μ-loop : tie.MeasureT-loop
-μ-loop counts free sum₀ k₀ sum k = 24 - k
+μ-loop counts free size sum₀ k₀ sum k = 24 - k
 
 -- One count on.
 here : (k : ℕ) (s : List ℕ) → k < length s → drop k s ≡ getD s k 0 ∷ drop (k + 1) s
@@ -29,7 +29,7 @@ returns c =
     let a = c .before .before .before in
     let s = a .before .args .counts .now in
     let k = a .loop .k in
-    never (λ g. let r = subst (GoodCounts (a .loop .sum)) (here k s (c .before .before .loop-test .taken)) (a .loop .inv .2 .0 g) in omega (arith, c .if1 .taken, r .few 0))
+    never (λ g. let r = subst (GoodCounts (a .before .args .size) (a .loop .sum)) (here k s (c .before .before .loop-test .taken)) (a .loop .inv .2 .0 g) in omega (arith, c .if1 .taken, r .few 0))
 
 add-sum : tie.Need-add-sum Inv-loop μ-loop
 add-sum c = let a = c .before .before .before in omega (arith, a .loop .inv .0, a .loop .inv .1, c .if1 .left)
@@ -40,10 +40,10 @@ loop-again c =
     let s = a .before .args .counts .now in
     let k = a .loop .k in
     let e = here k s (c .before .before .loop-test .taken) in
-    let on = counts-on (a .loop .sum) (getD s k 0) (drop (k + 1) s) (omega (arith, c .if1 .left)) in (
+    let on = counts-on (a .before .args .size) (a .loop .sum) (getD s k 0) (drop (k + 1) s) (omega (arith, c .if1 .left)) in (
       search needs,
       omega (arith, a .loop .inv .1, c .if1 .left),
-      (λ g. on .0 (subst (GoodCounts (a .loop .sum)) e (a .loop .inv .2 .0 g)), λ g. a .loop .inv .2 .1 (subst (GoodCounts (a .loop .sum)) (sym e) (on .1 g))),
+      (λ g. on .0 (subst (GoodCounts (a .before .args .size) (a .loop .sum)) e (a .loop .inv .2 .0 g)), λ g. a .loop .inv .2 .1 (subst (GoodCounts (a .before .args .size) (a .loop .sum)) (sym e) (on .1 g))),
     )
 
 returns-2 : tie.Need-returns-2 Inv-loop μ-loop
@@ -51,10 +51,10 @@ returns-2 c =
     let a = c .before in
     let s = a .before .args .counts .now in
     let e : drop (a .loop .k) s ≡ [] = drop-of-length-le s {i = a .loop .k} (c .loop-test .left) in
-    let done = counts-end (a .loop .sum) in
-    agrees (eq-decides (a .loop .sum) 24)
-    (λ t. a .loop .inv .2 .1 (subst (GoodCounts (a .loop .sum)) (sym e) (done .1 t)))
-    (λ g. done .0 (subst (GoodCounts (a .loop .sum)) e (a .loop .inv .2 .0 g)))
+    let done = counts-end (a .before .args .size) (a .loop .sum) in
+    agrees (eq-decides (a .loop .sum) (a .before .args .size))
+    (λ t. a .loop .inv .2 .1 (subst (GoodCounts (a .before .args .size) (a .loop .sum)) (sym e) (done .1 t)))
+    (λ g. done .0 (subst (GoodCounts (a .before .args .size) (a .loop .sum)) e (a .loop .inv .2 .0 g)))
 
 pub counts-good-spec : {M : Type 1} → statement M
 counts-good-spec =
@@ -70,4 +70,5 @@ counts-good-spec =
     (λ c. search needs)
     (λ c. search needs)
     loop-again
+    (λ c. search needs)
     returns-2)

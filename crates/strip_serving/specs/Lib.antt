@@ -1,0 +1,2 @@
+-- Record 1, which may ask for the part.
+pub mod First
