@@ -114,7 +114,7 @@ int main(void)
 	unsigned char sent[60] = { 0 }, fetched[2048];
 	unsigned length;
 
-	done(skarvoya_chip_power_up(&chip), "power-up");
+	done(skarvoya_chip_power_up(&chip, SKARVOYA_LAN91C96), "power-up");
 	bring_up();
 	memcpy(sent, station, 6);
 	memcpy(sent + 6, station, 6);

@@ -1,4 +1,4 @@
-"""The words that tools/rec has for registers, bits, commands, refusals, arrivals, sends and the link: tables in the words and the order of documents 01 and 02; the bits have the data sheet's names."""
+"""The words that tools/rec has for registers, bits, commands, refusals, arrivals, sends, the link and the parts: tables in the words and the order of documents 01 and 02; the bits have the data sheet's names."""
 from collections import namedtuple
 
 REFUSALS = {
@@ -17,7 +17,7 @@ REFUSALS = {
     13: "byte count odd",
     14: "completion FIFO full",
     15: "output buffer under 2,052 bytes",
-    16: "memory not 6,144 bytes or state not well formed",
+    16: "memory not of the part's size or state not well formed",
     17: "record cut short or of unknown kind",
     18: "byte count under 12",
     19: "byte count past the packet's pages",
@@ -29,17 +29,17 @@ OF_COUNT = (13, 18, 19)
 LOW, HIGH, WORD = 0x00FF, 0xFF00, 0xFFFF
 # Bits of a register. A single one is named where it is set; more are a number, and `told` has words for some numbers.
 # A label stands before the words where the access is of the whole word.
-Part = namedtuple("Part", "low width words told label", defaults=({}, ""))
-# The names of a word, of its low byte and of its high byte; its parts; the lanes that no write reaches.
-Register = namedtuple("Register", "word low high parts read_only", defaults=((), 0))
+Field = namedtuple("Field", "low width words told label", defaults=({}, ""))
+# The names of a word, of its low byte and of its high byte; its fields; the lanes that no write reaches.
+Register = namedtuple("Register", "word low high fields read_only", defaults=((), 0))
 
 
 def bits(names, first=0, label=""):
-    return tuple(Part(first + place, 1, name, {}, label) for place, name in names.items())
+    return tuple(Field(first + place, 1, name, {}, label) for place, name in names.items())
 
 
-def whole(name, parts=(), read_only=0):
-    return Register(name, f"{name} low", f"{name} high", parts, read_only)
+def whole(name, fields=(), read_only=0):
+    return Register(name, f"{name} low", f"{name} high", fields, read_only)
 
 
 def pair(name, at):
@@ -48,25 +48,25 @@ def pair(name, at):
 
 def numbers(unanswered):
     """Packet number and allocation result, with the words for a result of 80h."""
-    parts = (Part(0, 6, "packet {}"), Part(6, 2, ""), Part(8, 8, "packet {}", {0x80: unanswered}, "result "))
-    return Register("packet number, allocation result", "packet number", "allocation result", parts, HIGH)
+    fields = (Field(0, 6, "packet {}"), Field(6, 2, ""), Field(8, 8, "packet {}", {0x80: unanswered}, "result "))
+    return Register("packet number, allocation result", "packet number", "allocation result", fields, HIGH)
 
 
 TCR = bits({0: "TXENA", 7: "PAD_EN", 8: "NOCRC", 10: "MON_CSN", 12: "STP_SQET", 15: "FDSE"})
 EPHSR = bits({0: "TX_SUC", 1: "SNGLCOL", 2: "MULCOL", 3: "LTX_MULT", 4: "16COL", 5: "SQET", 6: "LTX_BRD"})
 EPHSR += bits({9: "LATCOL", 10: "LOST_CARR", 12: "CTR_ROL", 14: "LINK_OK", 15: "TXUNRN"})
 RCR = bits({0: "RX_ABORT", 1: "PRMS", 2: "ALMUL", 8: "RXEN", 9: "STRIP_CRC", 15: "SOFT_RST"})
-ECR = (Part(0, 4, "single collision {}", {0: ""}), Part(4, 4, "multiple collision {}", {0: ""}))
-ECR += (Part(8, 4, "deferred {}", {0: ""}), Part(12, 4, "excessively deferred {}", {0: ""}))
-MIR = (Part(0, 8, "{} pages"), Part(8, 8, "{} free"))
-RESERVED = (Part(0, 8, "{} pages"), Part(8, 8, ""))
+ECR = (Field(0, 4, "single collision {}", {0: ""}), Field(4, 4, "multiple collision {}", {0: ""}))
+ECR += (Field(8, 4, "deferred {}", {0: ""}), Field(12, 4, "excessively deferred {}", {0: ""}))
+MIR = (Field(0, 8, "{} pages"), Field(8, 8, "{} free"))
+RESERVED = (Field(0, 8, "{} pages"), Field(8, 8, ""))
 CONTROL = bits({5: "TE ENABLE", 6: "CR ENABLE", 7: "LE ENABLE", 11: "AUTO RELEASE", 14: "RCV_BAD"})
-HEADS = (Part(0, 8, "packet {}", {0x80: "empty"}, "completion "), Part(8, 8, "packet {}", {0x80: "empty"}, "RX "))
-POINTER = (Part(0, 11, "address {}"), *bits({13: "READ", 14: "AUTO INCR", 15: "RCV"}))
+HEADS = (Field(0, 8, "packet {}", {0x80: "empty"}, "completion "), Field(8, 8, "packet {}", {0x80: "empty"}, "RX "))
+POINTER = (Field(0, 11, "address {}"), *bits({13: "READ", 14: "AUTO INCR", 15: "RCV"}))
 INTERRUPTS = {0: "RCV", 1: "TX", 2: "TX EMPTY", 3: "ALLOC", 4: "RX_OVRN", 5: "EPH"}
 STATUS, MASK = bits(INTERRUPTS), bits({**INTERRUPTS, 6: "bit 6", 7: "bit 7"}, 8, "mask ")
 ACKNOWLEDGE = bits({1: "TX", 2: "TX EMPTY", 4: "RX_OVRN"})
-BANK = (Part(0, 3, "bank {}"), Part(3, 5, ""), Part(8, 8, ""))
+BANK = (Field(0, 3, "bank {}"), Field(3, 5, ""), Field(8, 8, ""))
 
 # by bank and even offset
 REGISTERS = {
@@ -109,8 +109,8 @@ COMMANDS = (
 ALLOCATE, RESET_MMU, RELEASES, TAKE_RX_HEAD = range(0x20, 0x28), 0x40, (0x80, 0xA0), (0x40, 0x60, 0x80)
 
 # the first words of a packet, by address: what its status means is known of the head of RX
-IN_PACKET = {0: whole("status"), 2: whole("byte count", (Part(0, 16, "{}"),))}
-RECEIVED = (Part(0, 1, "MULTCAST"), Part(1, 6, "hash {}", {0: ""}))
+IN_PACKET = {0: whole("status"), 2: whole("byte count", (Field(0, 16, "{}"),))}
+RECEIVED = (Field(0, 1, "MULTCAST"), Field(1, 6, "hash {}", {0: ""}))
 RECEIVED += bits({10: "TOOSHORT", 11: "TOOLNG", 12: "ODDFRM", 13: "BADCRC", 14: "BROADCAST", 15: "ALGNERR"})
 IN_RX_HEAD = {**IN_PACKET, 0: whole("status", RECEIVED)}
 NO_NAME = Register("", "", "")
@@ -132,3 +132,6 @@ DEFERRALS = ("", "deferred", "excessive")
 
 # a cable is moved: the states of the link
 LINKS = ("down", "up")
+
+# the parts, by the byte that asks for one in a first record: name, and how many pages it has, which is also how many packets
+PARTS = {0x94: ("LAN91C94", 18), 0x96: ("LAN91C96", 24)}

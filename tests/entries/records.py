@@ -7,16 +7,16 @@ TCR, EPHSR, RCR, ECR, MIR, RESERVED, BANK, STATION, LATCHES, CONTROL, LINK, POIN
 class Record:
     """The 32 words, the 24 page sets and the 72 bytes of queues of a chip, with every figure that W7 keeps. All registers not given are as after reset."""
 
-    def __init__(self, pages=(), rx=(), tx=(), completion=(), bank=0, packet=0, tcr=0, result=0x80, waiting=0):
-        """Of packets with these pages, given as (number, pages), and these queues; an allocation waits for so many pages."""
+    def __init__(self, pages=(), rx=(), tx=(), completion=(), bank=0, packet=0, tcr=0, result=0x80, waiting=0, part=24):
+        """Of packets with these pages, given as (number, pages), and these queues; an allocation waits for so many pages; the part has so many packets and pages."""
         self.sets = [0] * 24
         for number, own in pages:
             self.sets[number] = bits(own)
-        free = 24 - len(set().union(*(own for _, own in pages)))
+        free = part - len(set().union(*(own for _, own in pages)))
         self.slots = [*rx, *[0] * (24 - len(rx)), *tx, *[0] * (24 - len(tx)), *completion, *[0] * (24 - len(completion))]
         self.words = [0] * 32
         self.words[TCR] = tcr
-        self.words[MIR] = 24 + 256 * free
+        self.words[MIR] = part + 256 * free
         self.words[RESERVED] = 0x3300  # none reserved for transmit
         self.words[6], self.words[8], self.words[9] = len(rx), len(tx), len(completion)
         self.words[BANK] = 0x3300 + bank
@@ -78,6 +78,11 @@ def send(outcome=0, collisions=0, deferral=0, lacking=0):
 def plug(state):
     """The link is set."""
     return request(8, state)
+
+
+def lent(asked, pages):
+    """The same beside a memory of so many pages."""
+    return asked[:7] + bytes([pages])
 
 
 def line(number, value, back):

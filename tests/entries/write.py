@@ -6,7 +6,7 @@ usage: tests/entries/write.py      (in the repository's top folder)
 """
 import zlib
 
-from records import CONTROL, ECR, EPHSR, INTERRUPT, LATCHES, LINK, POINTER, RCR, RESERVED, STATION, Record, frame, line, plug, request, send
+from records import CONTROL, ECR, EPHSR, INTERRUPT, LATCHES, LINK, POINTER, RCR, RESERVED, STATION, Record, frame, lent, line, plug, request, send
 
 MIR, MIR_HIGH, HEADS, COMMAND, DATA = 0x08, 0x09, 0x04, 0x00, 0x08
 RXEN, ALL, STRIP, RX_ABORT = 0x0100, 0x0002, 0x0200, 0x0001  # of RCR
@@ -17,6 +17,7 @@ FCS = 4  # bytes
 SENT, BROADCAST, LINK_OK = 0x0001, 0x0040, 0x4000  # of EPHSR
 RX, TX_EMPTY, OVERRUN, EPH = 1, 4, 16, 32  # of the interrupt status; two are latches
 UP, CHANGED = 1, 2  # of the link's word
+MIR_PLACE = 4  # its word
 cases, lines = [], []
 
 
@@ -80,7 +81,7 @@ def in_order():
     after = Record([(16, [0]), (17, [1])], rx=[16], tx=[17], bank=2, packet=18)
     done("release one in neither", 0, high(bank=2, packet=18), command(0xA0), after)
     done("completion may name a freed packet", 1560, three().word(9, 1).slot(48, 20), request(2, MIR))
-    for kind in (0, 5, 9, 255):
+    for kind in (0, 5, 9, 10, 255):
         refused("no record of an entry", 17, three(), request(kind, MIR))
 
 
@@ -375,6 +376,46 @@ def link_damaged():
     damaged("the same, of a send", sending().word(LINK, 4), send())
 
 
+def on_94(asked):
+    """Beside the 4,608 bytes of the LAN91C94 (W9)."""
+    return lent(asked, 18)
+
+
+def other(**registers):
+    """The LAN91C94: packets 0 and 1 of six pages in RX and packet 17 of two in TX: four are free."""
+    return Record([(0, range(0, 6)), (1, range(6, 12)), (17, [16, 17])], rx=[0, 1], tx=[17], part=18, **registers)
+
+
+def other_part():
+    """The record names its part by MIR's low byte. "18 pages, packets 0 to 17, 4,608 bytes, MIR 1212h after reset"."""
+    done("MIR, all free", 0x1212, Record(part=18), on_94(request(2, MIR)))
+    done("MIR, four free", 0x0412, other(), on_94(request(2, MIR)))
+    done("allocate four, the last", 0, other(bank=2), on_94(command(0x23)),
+         Record([(0, range(0, 6)), (1, range(6, 12)), (2, range(12, 16)), (17, [16, 17])], rx=[0, 1], tx=[17], bank=2, result=2, part=18))
+    done("allocate five, which waits", 0, other(bank=2), on_94(command(0x24)), other(bank=2, waiting=5))
+    refused("release 18, which no packet is", 5, other(bank=2, packet=18), on_94(command(0xA0)))
+    refused("release 17, in TX", 6, other(bank=2, packet=17), on_94(command(0xA0)))
+    done("40h keeps the part", 0, other(bank=2), on_94(command(0x40)), Record(bank=2, part=18))
+    done("a soft reset keeps it", 0, other(), on_94(request(4, 0x04, 0x8000)), Record(part=18).word(RCR, 0x8000))
+    done("the link", 0, other(), on_94(plug(1)), other().word(LINK, UP + CHANGED))
+    done("result 17", 0x1100, other(bank=2, result=17), on_94(request(2, 0x02)))
+    full = {"completion": [k % 18 for k in range(18)], "tcr": TXENA}
+    refused("completion holds 18, and an odd count is 13 before", 12, Record(part=18, **full), on_94(send()))
+    damaged("a 19th completion entry", Record(part=18, completion=[0] * 19), on_94(request(2, MIR)))
+    damaged("completion names 18", Record(part=18, completion=[18]), on_94(request(2, MIR)))
+    damaged("result 18", other(result=18), on_94(request(2, MIR)))
+    damaged("page 18", Record([(0, [18])], part=18), on_94(request(2, MIR)))
+    damaged("packet 18", Record([(18, [0])], part=18), on_94(request(2, MIR)))
+    damaged("packet 18 in TX", Record([(18, [0])], tx=[18], part=18), on_94(request(2, MIR)))
+    damaged("the other part's memory", other(), request(2, MIR))
+    damaged("and for the LAN91C96", three(), on_94(request(2, MIR)))
+    damaged("a page of memory less", other(), lent(request(2, MIR), 17))
+    for size in (0, 17, 19, 20, 23, 25, 255):
+        for pages in (0, 18):
+            damaged(f"of no part, {size}", Record().word(MIR_PLACE, size + 256 * size), lent(request(2, MIR), pages))
+    damaged("free count one more", other().word(MIR_PLACE, 0x0512), on_94(request(2, MIR)))
+
+
 def main():
     in_order()
     wrong_figures()
@@ -389,6 +430,7 @@ def main():
     link_left()
     link_sent()
     link_damaged()
+    other_part()
     # at the end a case that is cut short
     open("crates/entry_runs/stdin", "wb").write(b"".join(cases) + three().case(request(2, MIR))[:-1])
     open("crates/entry_runs/stdout", "w").write("".join(lines))

@@ -4,7 +4,7 @@
  * the library needs: so nothing else runs on that stack. It says on standard error how much the deepest call took, and ends with 1 where something is wrong.
  * usage: monitor records < RECORDS    each record by skarvoya_record: the lines of bench
  *        monitor calls < RECORDS      each record by the call that it stands for: the lines of watch
- *        monitor refusals             what the header says of short lengths, and of states that no chip can be in
+ *        monitor refusals             of either part, what the header says of short lengths, of states that no chip can be in, and of a part asked for
  */
 #include "skarvoya.h"
 
@@ -92,12 +92,12 @@ static void small(void (*f)(void *), void *argument)
 		deepest = STACK - untouched;
 }
 
-/* what a call is lent, and the call; `n` is how many elements each pointer is said to have */
+/* what a call is lent, and the call; `n` is how many elements each pointer is said to have: memory of a chip, room for it of a bench */
 static struct lent {
 	struct skarvoya_bench b;
-	struct { size_t words, sets, queues, memory, wire, output, frame, bytes, line; } n;
+	struct { size_t words, sets, queues, memory, room, wire, output, frame, bytes, line; } n;
 	bool flag;
-	uint8_t offset, outcome, collisions, deferral, up, bytes[8], line[64];
+	uint8_t part, offset, outcome, collisions, deferral, up, bytes[8], line[64];
 	uint16_t value;
 	size_t printed;
 	uint32_t answer;
@@ -106,7 +106,7 @@ static struct lent {
 #define STATE l.b.chip.words, l.n.words, l.b.chip.sets, l.n.sets, l.b.chip.queues, l.n.queues
 #define CHIP STATE, l.b.chip.memory, l.n.memory
 
-static void power_up(void *none) { l.answer = skarvoya_power_up(CHIP); }
+static void power_up(void *none) { l.answer = skarvoya_power_up(l.part, CHIP); }
 static void access_read(void *none) { l.answer = skarvoya_read(CHIP, l.flag, l.offset); }
 static void access_write(void *none) { l.answer = skarvoya_write(CHIP, l.flag, l.offset, l.value); }
 static void frame(void *none) { l.answer = skarvoya_frame(CHIP, l.b.wire, l.n.frame, l.flag); }
@@ -115,28 +115,44 @@ static void link_set(void *none) { l.answer = skarvoya_link(CHIP, l.up); }
 static void line(void *none) { l.answer = skarvoya_line(STATE); }
 static void record(void *none)
 {
-	l.answer = skarvoya_record(CHIP, l.b.wire, l.n.wire, &l.b.gathered, l.b.output, l.n.output, &l.b.count, l.bytes, l.n.bytes, l.line, l.n.line, &l.printed);
+	l.answer = skarvoya_record(STATE, l.b.chip.memory, l.n.room, l.b.wire, l.n.wire, &l.b.gathered, l.b.output, l.n.output, &l.b.count,
+				   l.bytes, l.n.bytes, l.line, l.n.line, &l.printed);
 }
 
 static void right_lengths(void)
 {
-	l.n.words = SKARVOYA_WORDS, l.n.sets = SKARVOYA_SETS, l.n.queues = SKARVOYA_QUEUES, l.n.memory = SKARVOYA_MEMORY;
+	l.n.words = SKARVOYA_WORDS, l.n.sets = SKARVOYA_SETS, l.n.queues = SKARVOYA_QUEUES;
+	l.n.memory = l.part == SKARVOYA_LAN91C94 ? SKARVOYA_MEMORY_94 : SKARVOYA_MEMORY_96, l.n.room = SKARVOYA_MEMORY;
 	l.n.wire = SKARVOYA_WIRE, l.n.output = SKARVOYA_OUTPUT, l.n.frame = 0, l.n.bytes = SKARVOYA_RECORD, l.n.line = SKARVOYA_LINE;
 }
 
-/* the chip at power-up, from bytes that are not 0 */
-static void start(void)
+/* MIR and the memory are those of the part at power-up, and the bytes behind its memory are as they were */
+static void started(void)
+{
+	const uint8_t *memory = l.b.chip.memory;
+
+	if (l.b.chip.words[4] != (l.part == SKARVOYA_LAN91C94 ? 0x1212 : 0x1818))
+		fail("the part at power-up");
+	for (size_t i = 0; i < SKARVOYA_MEMORY; i++)
+		if (memory[i] != (i < l.n.memory ? 0 : PATTERN))
+			fail("the memory at power-up");
+}
+
+/* the part at power-up, from bytes that are not 0; those behind its memory stay */
+static void start(uint8_t part)
 {
 	unsigned char *bytes = (unsigned char *)&l.b;
 
 	for (size_t i = 0; i < sizeof l.b; i++)
 		bytes[i] = PATTERN;
+	l.part = part;
 	right_lengths();
 	l.b.gathered = 0;
 	l.b.count = 0;
 	small(power_up, 0);
 	if (l.answer != 0)
 		fail("power-up is refused");
+	started();
 }
 
 static char out[1 << 16];
@@ -212,6 +228,13 @@ static uint32_t called(const uint8_t *bytes)
 		l.up = bytes[1];
 		small(link_set, 0);
 		return l.answer;
+	case 9:
+		if (l.b.count != 0 || (bytes[1] != SKARVOYA_LAN91C94 && bytes[1] != SKARVOYA_LAN91C96))
+			return 11 << 16;
+		l.part = bytes[1], l.b.gathered = 0;
+		right_lengths();
+		small(power_up, 0);
+		return l.answer;
 	}
 	return 17 << 16;
 }
@@ -262,7 +285,7 @@ static void expect(const char *what, void (*f)(void *), uint32_t answer)
 	tried++;
 }
 
-/* the functions that are lent a state and a memory */
+/* the functions that are lent a state and the memory of its part */
 static void by_each(const char *what, uint32_t answer)
 {
 	expect(what, access_read, answer);
@@ -270,10 +293,9 @@ static void by_each(const char *what, uint32_t answer)
 	expect(what, frame, answer);
 	expect(what, send, answer);
 	expect(what, link_set, answer);
-	expect(what, record, answer);
 }
 
-enum { OF_STATE, OF_MEMORY, OF_WIRE, OF_ROOM };
+enum { OF_STATE, OF_MEMORY, OF_BENCH, OF_ROOM };
 
 /* no element, one too few, and, but for room, one too many; then the right number again */
 static void lengths(const char *what, size_t *n, int sort)
@@ -285,9 +307,9 @@ static void lengths(const char *what, size_t *n, int sort)
 		if (sort == OF_STATE || sort == OF_MEMORY) {
 			by_each(what, 16 << 16);
 			expect(what, power_up, 16 << 16);
-		} else {
-			expect(what, record, (sort == OF_ROOM ? 15 : 16) << 16);
 		}
+		if (sort != OF_MEMORY)
+			expect(what, record, (sort == OF_ROOM ? 15 : 16) << 16);
 		if (sort == OF_STATE)
 			expect(what, line, 16 << 16);
 	}
@@ -297,7 +319,89 @@ static void lengths(const char *what, size_t *n, int sort)
 static void damaged(const char *what)
 {
 	by_each(what, 16 << 16);
+	expect(what, record, 16 << 16);
 	expect(what, line, 16 << 16);
+}
+
+/* what only one part has, or none */
+static void other_parts(void)
+{
+	static const uint8_t none[] = { 0x00, 0x12, 0x18, 0x93, 0x95, 0x97, 0xff };
+	uint8_t part = l.part;
+	uint16_t mir = l.b.chip.words[4];
+	size_t n = l.n.memory;
+
+	l.n.memory = SKARVOYA_MEMORY_94 + SKARVOYA_MEMORY_96 - n;
+	by_each("the memory of the other part", 16 << 16);
+	expect("power-up beside the memory of the other part", power_up, 16 << 16);
+	l.n.memory = n;
+
+	/* whatever the lengths: a part that is none is told first */
+	for (size_t i = 0; i < sizeof none; i++) {
+		l.part = none[i];
+		expect("a part that is none", power_up, 11 << 16);
+		l.n.words--, l.n.memory--;
+		expect("a part that is none, beside wrong lengths", power_up, 11 << 16);
+		l.n.words++, l.n.memory++;
+	}
+	l.part = part;
+
+	/* MIR's low byte: the other part's, beside its own memory and beside the other's, and that of no part */
+	l.b.chip.words[4] = mir ^ 0x12 ^ 0x18;
+	damaged("a state that names the other part");
+	l.n.memory = SKARVOYA_MEMORY_94 + SKARVOYA_MEMORY_96 - n;
+	damaged("a state that names the other part, beside its memory");
+	l.n.memory = n;
+	l.b.chip.words[4] = mir ^ 0x01;
+	damaged("a state that names no part");
+	l.b.chip.words[4] = mir;
+
+	if (part == SKARVOYA_LAN91C96)
+		return;
+	l.b.chip.sets[18] = 1 << 17; /* a free page, in a packet that the part has not */
+	damaged("a packet behind the part's");
+	l.b.chip.sets[18] = 0;
+	l.b.chip.sets[17] = 1 << 18; /* a page that it has not */
+	damaged("a page behind the part's");
+	l.b.chip.sets[17] = 0;
+}
+
+/* a record of kind 9 is answered so, with this line */
+static void asks(uint8_t part, uint32_t answer, const char *text)
+{
+	size_t n = 0;
+
+	while (text[n])
+		n++;
+	l.bytes[0] = 9, l.bytes[1] = part;
+	small(record, 0);
+	if (l.answer != answer || l.printed != n || !same(l.line, text, n))
+		fail("a record of kind 9");
+	tried++;
+}
+
+/* a bench of this part is asked for the other as its first record, which starts it; later on and for no part it is refused, and the bench stays */
+static void asked_for(uint8_t part)
+{
+	start(part);
+	l.b.gathered = 7;
+	for (size_t i = 0; i < SKARVOYA_MEMORY; i++)
+		l.b.chip.memory[i] = PATTERN;
+	l.b.count = 1;
+	before = l;
+	asks(part, 11 << 16, "2 11 0000\n");
+	l.b.count = 0;
+	asks(0x95, 11 << 16, "1 11 0000\n");
+	if (l.b.gathered != 7 || l.b.count != 1 || !same(&l.b.chip, &before.b.chip, sizeof l.b.chip))
+		fail("a bench after a part that it does not get");
+	l.b.count = 0;
+	l.part = part ^ SKARVOYA_LAN91C94 ^ SKARVOYA_LAN91C96;
+	right_lengths();
+	asks(l.part, 0, "1 0 0000\n");
+	started();
+	if (l.b.gathered != 0 || l.b.count != 1 || !same(l.b.output, before.b.output, sizeof l.b.output))
+		fail("a bench after the part that it asks for");
+	asks(l.part, 11 << 16, "2 11 0000\n");
 }
 
 /* a packet of one page, loaded with 12 bytes and enqueued, so that a send would be done */
@@ -313,14 +417,16 @@ static void enqueue(void)
 			fail("a write is refused");
 }
 
-static void refusals(void)
+static void refusals_of(uint8_t part)
 {
+	start(part);
 	enqueue();
 	lengths("a state of other than 32 words", &l.n.words, OF_STATE);
 	lengths("a state of other than 24 sets", &l.n.sets, OF_STATE);
 	lengths("a state of other than 72 bytes of queues", &l.n.queues, OF_STATE);
-	lengths("a memory of other than 6,144 bytes", &l.n.memory, OF_MEMORY);
-	lengths("a wire buffer of other than 2,048 bytes", &l.n.wire, OF_WIRE);
+	lengths("a memory of other than the part's bytes", &l.n.memory, OF_MEMORY);
+	lengths("a bench's memory of other than 6,144 bytes", &l.n.room, OF_BENCH);
+	lengths("a wire buffer of other than 2,048 bytes", &l.n.wire, OF_BENCH);
 	lengths("a line of fewer than 40 bytes", &l.n.line, OF_ROOM);
 	lengths("an output of fewer than 2,052 bytes", &l.n.output, OF_ROOM);
 	l.n.output--;
@@ -351,6 +457,7 @@ static void refusals(void)
 	l.b.chip.words[15] = 0;
 	for (l.up = 2; l.up != 0; l.up = l.up == 2 ? 255 : 0)
 		expect("a link neither down nor up", link_set, 11 << 16);
+	other_parts();
 
 	/* a record of seven bytes gets 17 and its line, as does one of none; and the chip stays */
 	for (l.n.bytes = 7;; l.n.bytes = 0) {
@@ -377,6 +484,14 @@ static void refusals(void)
 	small(send, 0);
 	if (l.answer != 10)
 		fail("the send after all refusals");
+}
+
+static void refusals(void)
+{
+	refusals_of(SKARVOYA_LAN91C96);
+	refusals_of(SKARVOYA_LAN91C94);
+	asked_for(SKARVOYA_LAN91C96);
+	asked_for(SKARVOYA_LAN91C94);
 	filled = decimal(out, tried) - out;
 	for (const char *text = " calls answered as the header says\n"; *text; text++)
 		out[filled++] = *text;
@@ -392,7 +507,7 @@ int main(int argc, char **argv)
 	}
 	for (unsigned i = 0; i < BELOW; i++)
 		area[i] = PATTERN;
-	start();
+	start(SKARVOYA_LAN91C96);
 	if (argv[1][0] == 'c')
 		by_calls();
 	else if (argv[1][2] == 'c')

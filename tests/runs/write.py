@@ -1,6 +1,6 @@
 #!/usr/bin/env python3
 """Writes crates/bench_runs/stdin and stdout: the cases that document 01 marks "Run", how W1 of document 02 lets the last of them go on, the byte counts that W2 tells apart,
-the frame check sequences of W4 (zlib's), and the link of W8, each record with the answer that the papers give it.
+the frame check sequences of W4 (zlib's), the link of W8, and the parts of W9, asked for when the first record has come, each record with the answer that the papers give it.
 
 usage: tests/runs/write.py      (in the repository's top folder)
 """
@@ -459,6 +459,48 @@ shows(LINK_OK, RX + TX_EMPTY + EPH)
 link(0)
 frame(64, 0)
 shows(0, RX + TX_EMPTY + EPH)
+
+# W9: "kind 9 later on .. gets 11", whatever its byte 1: no first record of this run asks for a part, so it is the LAN91C96's, and none of these makes it another
+PARTS_AND_OTHERS = (0x94, 0x96, 0x95, 0x12, 0x18, 0x00, 0xFF)
+
+
+def asks(byte):
+    says(11, 0, 9, byte)
+
+
+for byte in PARTS_AND_OTHERS:
+    asks(byte)
+shows(0, RX + TX_EMPTY + EPH)
+write_byte(0x00, 0x40)
+asks(0x94)
+sees(0x80, TX_EMPTY + EPH, 24)
+
+# 24 packets of a page: the numbers from 18 on are packets, and 24 is none
+for number in range(24):
+    allocate(1)
+    says(0, number, 1, 0x03)
+    if number == 17:
+        asks(0x94)
+allocate(1)
+asks(0x94)
+sees(0x80, TX_EMPTY + EPH, 0)
+release(23)
+sees(23, TX_EMPTY + ALLOCATION + EPH, 0)
+write_byte(0x02, 24)
+write_byte(0x00, 0xA0, answer=5)
+write_byte(0x00, 0xC0, answer=5)
+
+# a soft reset is no power-up, and bytes that gather stay
+enter(0, 0x04, 0x8000)
+asks(0x94)
+sees(0x80, TX_EMPTY, 24)
+enter(0, 0x04, 0x0100)  # RXEN
+for at in range(0, len(right), 6):
+    part = right[at : at + 6]
+    says(0, 0, 5, len(part), *part)
+    asks(PARTS_AND_OTHERS[at // 6 % len(PARTS_AND_OTHERS)])
+says(0, 0, 6)
+sees(0x80, RX + TX_EMPTY, 23)
 
 open("crates/bench_runs/stdin", "wb").write(b"".join(records))
 open("crates/bench_runs/stdout", "w").write("".join(lines))
