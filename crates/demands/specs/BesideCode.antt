@@ -5,9 +5,9 @@ use Prim.Native.Nat.{ℕ}
 use Rattle.rules.specs.Chip.{paged, strips, Chip, powered}
 use Rattle.rules.specs.Answers.{Reply}
 use Rattle.rules.specs.Step.{Input, stepOf, runOf}
-use Rattle.laws.specs.Written.{Marks, unwritten, written, writtenBy, OnlyWritten}
-use Rattle.laws.specs.Strips.{Agree, SameReply, Alike}
-use Rattle.laws.specs.StripsAlike.{strips-beside}
+use Rattle.strip_laws.specs.Written.{Marks, unwritten, written, writtenBy, OnlyWritten}
+use Rattle.strip_laws.specs.Strips.{Agree, SameReply, Alike}
+use Rattle.strip_laws.specs.StripsAlike.{strips-beside}
 use Rattle.demands.specs.Boards.{Board, Left, replyTo, boardAfter, chipOf, GoodOf, Starts, Runs, serves-right, runs-right}
 use Rattle.demands.specs.OfCode.{starts-up}
 

@@ -32,8 +32,8 @@ use Rattle.laws.specs.LinkApart.{ByLink, butStatus, TurnsApart, LinkApart, Same
 use Rattle.laws.specs.LinkPlaces.{link-alone, link-apart, link-and-frame, link-and-send, link-and-refused-send}
 use Rattle.laws.specs.Loads.{Loads}
 use Rattle.laws.specs.Merge.{Merge, Alike, any-two}
-use Rattle.laws.specs.Written.{unwritten, OnlyWritten}
-use Rattle.laws.specs.StripsAlike.{StripsBeside, strips-beside}
+use Rattle.strip_laws.specs.Written.{unwritten, OnlyWritten}
+use Rattle.strip_laws.specs.StripsAlike.{StripsBeside, strips-beside}
 use Rattle.laws.specs.Theorems.{Whole, power-up-whole, step-whole, pages-accounted, since-power-up, since-reset}
 use Rattle.demands.specs.Boards.{Board, partIn, Left, replyTo, boardAfter, chipOf, ReadyBy, Good, GoodOf, Serves, Starts, Shows, Runs, Refused16, AsRules, good-part, good-size, serves-right, serves-refused, serves-once}
 use Rattle.demands.specs.OfCode.{good-whole, serves-numbers, serves-leaves, serves-values, serves-sixteen, serves-no17, serves-part, serves-earlier, serves-counts, serves-pages, starts-up, BalancesOn, runs-balanced, runs-balanced-since, serves-good-crc, AlikeOn, any-two-on}

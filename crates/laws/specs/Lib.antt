@@ -1,4 +1,4 @@
--- What leads to the client's demands, which `demands` states. The modules tell the story in this order. No code rests on this crate.
+-- What leads to the client's demands, which `demands` states; what leads to the promise of strips is in `strip_laws`. The modules tell the story in this order. No code rests on this crate.
 -- Laws are over the number n of packets and pages, and a part only cites them (document 02, W9). Computed examples stand at a part, or at a few packets.
 -- What the rules compute: the worked example, the LAN91C94 and how the bench is asked for it, the table of document 01, the hash examples of the data sheet, and a broadcast with its FCS.
 pub mod Example
@@ -28,6 +28,8 @@ pub mod Theorems
 pub mod Restarts
 -- An allocation that waits: granted in the very step that leaves enough pages free, never waiting in vain, and ended by nothing but a grant, a new request or a reset.
 pub mod Waiting
+-- A packet's bytes one by one, after bytes were put into it.
+pub mod Placed
 -- The link: the two values that show it, who changes it, and that loading, frames and sends are as before, whatever it is.
 pub mod LinkApart
 pub mod LinkReads
@@ -45,21 +47,3 @@ pub mod Loads
 pub mod Merge
 pub mod Needed
 pub mod Meanwhile
--- Document 02, W3, the chip of strips beside the paged one: which bytes are written, and the promise.
-pub mod Written
-pub mod Strips
--- Packets of two chips that stay alike, whatever their layouts: bytes put and read, how many pages each has, pages given back and granted.
-pub mod Placed
-pub mod SameCounts
-pub mod Packets
--- Each input on two chips beside each other.
-pub mod Beside
-pub mod BesideCommands
-pub mod BesideData
-pub mod BesideRegisters
-pub mod BesideFrames
-pub mod BesideSends
--- The promise, from power-up on; why it asks what it asks, and a history that it is about.
-pub mod StripsAlike
-pub mod StripsNeeded
-pub mod StripsUsed

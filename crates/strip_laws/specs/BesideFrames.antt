@@ -17,11 +17,11 @@ use Rattle.rules.specs.Receive.{Frame, Arrival, stored, disabled, notAccepted, 
 use Rattle.lists.specs.Each.{Each}
 use Rattle.wellformed.specs.Layouts.{unallocated, granted-lists}
 use Rattle.wellformed.specs.Frames.{data-short, needs-one, needs-seven, storable}
 use Rattle.laws.specs.Reception.{image-fits}
-use Rattle.laws.specs.Written.{Marks, marked, anew, frameMarks}
-use Rattle.laws.specs.Packets.{Packets, put-in-both}
-use Rattle.laws.specs.Beside.{on, Follows, stays, Effects, same-answer, pick-both, as-many-free, next-alike, granted-lists-alike, Beside, both-good}
-use Rattle.laws.specs.BesideCommands.{as-is}
+use Rattle.strip_laws.specs.Written.{Marks, marked, anew, frameMarks}
+use Rattle.strip_laws.specs.Packets.{Packets, put-in-both}
+use Rattle.strip_laws.specs.Beside.{on, Follows, stays, Effects, same-answer, pick-both, as-many-free, next-alike, granted-lists-alike, Beside, both-good}
+use Rattle.strip_laws.specs.BesideCommands.{as-is}
 
 -- a list is of bytes
 abbrev Small : List ℕ → Type 0

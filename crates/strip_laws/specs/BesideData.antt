@@ -15,12 +15,12 @@ use Rattle.rules.specs.Packet.{place, getBytes, putBytes}
 use Rattle.rules.specs.Data.{rcv, address, against, oddFixed, past, ifPacket, ifOpen, moved, valueOf, readData, writeData}
 use Rattle.rules.specs.Registers.{Lanes, low, high, both, width, bytesOf, headOf}
 use Rattle.lists.specs.Each.{Each}
 use Rattle.laws.specs.Head.{byteAt}
-use Rattle.laws.specs.Written.{Marks, marked, meant}
-use Rattle.laws.specs.Strips.{WrittenAt}
+use Rattle.strip_laws.specs.Written.{Marks, marked, meant}
+use Rattle.strip_laws.specs.Strips.{WrittenAt}
 use Rattle.laws.specs.Placed.{Octets, get-alike}
-use Rattle.laws.specs.Beside.{on, stays, Answers, Effects, pick-both, unless-both, Beside, puts-alike}
-use Rattle.laws.specs.BesideCommands.{as-is, both-did, same-allocated, head-allocated, by-head-both}
+use Rattle.strip_laws.specs.Beside.{on, stays, Answers, Effects, pick-both, unless-both, Beside, puts-alike}
+use Rattle.strip_laws.specs.BesideCommands.{as-is, both-did, same-allocated, head-allocated, by-head-both}
 
 -- The bytes of a value that a read takes from memory.
 module _ (pages memory : List ℕ) (o : Octets memory) where

@@ -17,14 +17,14 @@ use Rattle.rules.specs.Mmu.{due, freed}
 use Rattle.rules.specs.Send.{Send, inLimits, byteCount, sendLength, controlByte, putOut, good, sentRegisters, autoRelease, retire, statusWord, statusWritten, sendHead, noPlace, ifUsable, ifSendable, byTxHead, finish}
 use Rattle.lists.specs.Facts.{member-first, head-and-rest}
 use Rattle.wellformed.specs.Cases.{pick}
 use Rattle.laws.specs.Head.{byteAt, headCount, headControl, countAt, count-is}
 use Rattle.laws.specs.Sendable.{Reaches, within-decides, sendable-done}
 use Rattle.laws.specs.PutOut.{control-is}
-use Rattle.laws.specs.Written.{Marks, marked, settledMarks, sendMarks, ReadsWritten}
+use Rattle.strip_laws.specs.Written.{Marks, marked, settledMarks, sendMarks, ReadsWritten}
 use Rattle.laws.specs.Placed.{get-alike}
-use Rattle.laws.specs.Packets.{Packets}
-use Rattle.laws.specs.Beside.{on, Follows, stays, same-answer, marksBy, Turns, pick-both, unless-both, Good, as-many-packets, gives-back-alike, Beside, puts-alike, both-good}
-use Rattle.laws.specs.BesideCommands.{allocated-small}
+use Rattle.strip_laws.specs.Packets.{Packets}
+use Rattle.strip_laws.specs.Beside.{on, Follows, stays, same-answer, marksBy, Turns, pick-both, unless-both, Good, as-many-packets, gives-back-alike, Beside, puts-alike, both-good}
+use Rattle.strip_laws.specs.BesideCommands.{allocated-small}
 
 -- a send of packet k, with these bytes put out and this address
 abbrev sentWith : Send → ℕ → List ℕ → Chip → List ℕ → List ℕ → List ℕ → Turn

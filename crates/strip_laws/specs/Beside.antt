@@ -17,10 +17,10 @@ use Rattle.wellformed.specs.Layouts.{GoodLists, unallocated, back-lists}
 use Rattle.wellformed.specs.Pool.{good-lists}
 use Rattle.wellformed.specs.Settle.{due-decides}
 use Rattle.wellformed.specs.Fit.{Fits}
-use Rattle.laws.specs.Written.{Marks, marked, anew, settledMarks}
-use Rattle.laws.specs.Strips.{WrittenAt}
-use Rattle.laws.specs.SameCounts.{first-alike, free-alike}
-use Rattle.laws.specs.Packets.{Packets, put-in-both, freed-in-both, granted-in-both}
+use Rattle.strip_laws.specs.Written.{Marks, marked, anew, settledMarks}
+use Rattle.strip_laws.specs.Strips.{WrittenAt}
+use Rattle.strip_laws.specs.SameCounts.{first-alike, free-alike}
+use Rattle.strip_laws.specs.Packets.{Packets, put-in-both, freed-in-both, granted-in-both}
 
 -- the chip beside c
 abbrev pub on : Layout → List (List ℕ) → List ℕ → Chip → Chip

@@ -9,15 +9,15 @@ use Rattle.rules.specs.Chip.{Layout, paged, strips, Chip, pageNumbers, pagesAt,
 use Rattle.rules.specs.Step.{Input, driver, frame, sent, link, serve, stepOf, runOf}
 use Rattle.wellformed.specs.Fit.{Fits, step-fit}
 use Rattle.wellformed.specs.Keeps.{keeps, powered-fits}
 use Rattle.laws.specs.Head.{byteAt}
-use Rattle.laws.specs.Written.{Marks, unwritten, inputMarks, written, writtenBy, Minds, OnlyWritten}
-use Rattle.laws.specs.Strips.{Agree, dataRead, StepAlike, Alike}
+use Rattle.strip_laws.specs.Written.{Marks, unwritten, inputMarks, written, writtenBy, Minds, OnlyWritten}
+use Rattle.strip_laws.specs.Strips.{Agree, dataRead, StepAlike, Alike}
 use Rattle.laws.specs.Placed.{Octets}
-use Rattle.laws.specs.SameCounts.{none-alike}
-use Rattle.laws.specs.Beside.{on, Follows, stays, Turns, Beside}
-use Rattle.laws.specs.BesideRegisters.{same-access, same-plug}
-use Rattle.laws.specs.BesideFrames.{same-arrive}
-use Rattle.laws.specs.BesideSends.{same-finish}
+use Rattle.strip_laws.specs.SameCounts.{none-alike}
+use Rattle.strip_laws.specs.Beside.{on, Follows, stays, Turns, Beside}
+use Rattle.strip_laws.specs.BesideRegisters.{same-access, same-plug}
+use Rattle.strip_laws.specs.BesideFrames.{same-arrive}
+use Rattle.strip_laws.specs.BesideSends.{same-finish}
 
 -- A chip that follows agrees.
 agrees-with : (l : Layout) {m : Marks} {c d : Chip} → Follows l m c d → Agree m c d

@@ -15,11 +15,11 @@ use Rattle.lists.specs.Facts.{Decides, _and_, is-true, is-false, or-cases, lt-d
 use Rattle.lists.specs.Each.{Each}
 use Rattle.wellformed.specs.Pages.{at-set}
 use Rattle.wellformed.specs.Layouts.{none-there}
 use Rattle.laws.specs.Apart.{get-after-put}
 use Rattle.laws.specs.Head.{byteAt}
-use Rattle.laws.specs.Written.{Marks, marked, anew}
-use Rattle.laws.specs.SameCounts.{SameCounts, set-alike, none-alike}
+use Rattle.strip_laws.specs.Written.{Marks, marked, anew}
+use Rattle.strip_laws.specs.SameCounts.{SameCounts, set-alike, none-alike}
 use Rattle.laws.specs.Placed.{placed, put-beside, put-there, Octets, put-octets}
 
 -- page lists and memory of the one chip, and of the other
 pub record Packets (m : Marks) (ls : List (List ℕ)) (memory : List ℕ) (others : List (List ℕ)) (bytes : List ℕ) : Type 0 where

@@ -18,7 +18,7 @@ use Rattle.rules.specs.Crc.{crcBit, crcBits, crcFrom, crc, mirror, fcsWord, fou
 use Rattle.rules.specs.Receive.{Frame, sameBytes, badCrc, broadcast, group, accepted, dataLength, countOf, pagesFor, needed, valueFor, dropped, judge, groupBits, frameStatus, trailer, image, after, arrive}
 use Rattle.rules.specs.Send.{inLimits, byteCount, sendLength, appends, padded, ended, onWire, controlByte, putOut, good, failureBit, collisionBits, outcomeBits, addressBits, nibble, counted, tally, nibbles, anyAt15, newEcr, newEphsr, autoRelease, sendHead, ifUsable, ifSendable, finish}
 use Rattle.rules.specs.Step.{Input, driver, frame, sent, serve, stepOf, runOf}
-use Rattle.laws.specs.Written.{Marks, unwritten, marked, anew, commandMarks, writeMarks, accessMarks, inputMarks, written, OnlyWritten, writtenBy}
+use Rattle.strip_laws.specs.Written.{Marks, unwritten, marked, anew, commandMarks, writeMarks, accessMarks, inputMarks, written, OnlyWritten, writtenBy}
 
 -- what is seen of the last input: its reply, and the first bytes of its output buffer
 pub record Last : Type 0 where

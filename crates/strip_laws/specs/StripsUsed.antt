@@ -22,10 +22,10 @@ use Rattle.rules.specs.Send.{inLimits, byteCount, sendLength, appends, padded, 
 use Rattle.rules.specs.Step.{Input, driver, frame, sent, link, serve, stepOf, runOf}
 use Rattle.lists.specs.Facts.{_and_, is-true}
 use Rattle.wellformed.specs.Fit.{below-decides}
 use Rattle.laws.specs.Broadcast.{broadcasting}
 use Rattle.laws.specs.Head.{headCount, headControl}
-use Rattle.laws.specs.Written.{Marks, unwritten, marked, anew, commandMarks, writeMarks, accessMarks, frameMarks, sendMarks, inputMarks, written, writtenBy, ReadsWritten, Minds, OnlyWritten}
-use Rattle.laws.specs.StripsAlike.{StripsBeside, strips-beside}
+use Rattle.strip_laws.specs.Written.{Marks, unwritten, marked, anew, commandMarks, writeMarks, accessMarks, frameMarks, sendMarks, inputMarks, written, writtenBy, ReadsWritten, Minds, OnlyWritten}
+use Rattle.strip_laws.specs.StripsAlike.{StripsBeside, strips-beside}
 
 -- are w bytes of packet k, from address a on, written
 unfoldable pub allMarked : ℕ → ℕ → ℕ → Marks → Bool

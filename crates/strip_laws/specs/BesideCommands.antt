@@ -15,10 +15,10 @@ use Rattle.rules.specs.Registers.{headOf}
 use Rattle.lists.specs.Facts.{member-first}
 use Rattle.wellformed.specs.Pool.{has-small}
 use Rattle.wellformed.specs.Keeps.{Valid}
-use Rattle.laws.specs.Written.{Marks, anew, settledMarks, commandMarks}
-use Rattle.laws.specs.SameCounts.{allocated-alike}
-use Rattle.laws.specs.Packets.{Packets, emptied-in-both}
-use Rattle.laws.specs.Beside.{on, Follows, Effects, stays, same-answer, marksBy, pick-both, unless-both, as-many-packets, as-many-free, grants-alike, gives-back-alike, Beside, both-good}
+use Rattle.strip_laws.specs.Written.{Marks, anew, settledMarks, commandMarks}
+use Rattle.strip_laws.specs.SameCounts.{allocated-alike}
+use Rattle.strip_laws.specs.Packets.{Packets, emptied-in-both}
+use Rattle.strip_laws.specs.Beside.{on, Follows, Effects, stays, same-answer, marksBy, pick-both, unless-both, as-many-packets, as-many-free, grants-alike, gives-back-alike, Beside, both-good}
 
 module _ {n : ℕ} {l : Layout} {m : Marks} {c : Chip} {ls : List (List ℕ)} {bytes : List ℕ} (b : Beside n l m c ls bytes) where
   abbrev other : Chip
