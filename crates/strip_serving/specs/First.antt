@@ -1,6 +1,6 @@
 -- Record 1 may ask for the part (document 02, W9). The chip powers up behind it, as the part that it asks for or as the LAN91C96; either way the record is answered on the bench that the rules start with.
-use mathlib.Core.Path.{_≡_, ap, sym, subst, _∙_}
-use mathlib.Core.Bool.{cond}
+use mathlib.Core.Path.{_≡_, refl, ap, sym, subst, _∙_}
+use mathlib.Core.Bool.{Bool, true, false, cond, true≢false}
 use mathlib.Core.Logic.{_⊎_, inl, inr}
 use mathlib.Core.List.{List, _++_}
 use Prim.Native.Nat.{ℕ, _+_, _*_, _-_, _≤_, _<_}
@@ -17,13 +17,14 @@ use Rattle.state.specs.declared.part.Part.{Part}
 use Rattle.state.specs.declared.part.Part.the-variants as part
 use Rattle.state.specs.declared.part.Named.{Named}
 use Rattle.state.specs.declared.part.Named.the-variants as named
-use Rattle.state.specs.Meaning.{packetsOf, packetsNamed}
+use Rattle.state.specs.Meaning.{replyOf, packetsOf, packetsNamed}
 use Rattle.state.specs.declared.Answer.{Answer}
+use Rattle.state.specs.declared.Answer.the-variants.{Done}
 use Rattle.state.specs.View.{viewOf}
 use Rattle.state.specs.Entry.{InOrderOf, sizeIn, zeros, StartedOf}
 use Rattle.state.specs.Places.{lent-in-order}
 use Rattle.records.specs.Gathers.{holding}
-use Rattle.turns.specs.Turns.{HeldOf}
+use Rattle.turns.specs.Turns.{HeldOf, TurnsOf}
 use Rattle.turns.specs.Served.{asked, answered-later, answered-none, answered-part, ServedOf}
 
 -- what `strip_bench` starts from, whatever record 1 is
@@ -33,6 +34,20 @@ atFirst = startedOn (powered strips lan91c96)
 -- how many packets the part has that powers up for a first record: "without it, the LAN91C96"
 unfoldable pub startsAs : Event → ℕ
 startsAs e = cond (ltb 0 (asksFor e)) (asksFor e) lan91c96
+
+-- a record asked for the part, or it did not
+abbrev pub AskedBy : Bool → Event → Type 0
+AskedBy t e = (t ≡ true → 0 < asksFor e) × (t ≡ false → asksFor e ≡ 0)
+
+-- the bench on which the rules answer a record, where the state stands for b: the one that they start with, where the record has started the part
+abbrev pub answersOn : Bool → Bench → Bench
+answersOn started b = cond started atFirst b
+
+-- what is known of the record of this number: it has started the part, as record 1; or it comes later, or asks for none
+abbrev pub Opens : Bool → ℕ → List ℕ → Bench → Type 0
+Opens started number bytes b =
+    (started ≡ true → (number ≡ 1) × (0 < asksFor (asked bytes)) × (b ≡ startedOn (powered strips (asksFor (asked bytes)))))
+    × (started ≡ false → (1 < number) ⊎ (asksFor (asked bytes) ≡ 0))
 
 -- that part has powered up for the record 1 of these bytes, and nothing else happened
 pub record Starting (bytes w s q mem wire : List ℕ) (have : ℕ) (out : List ℕ) : Type 0 where
@@ -58,33 +73,43 @@ part-asked p e q = sym e ∙ ap packetsNamed q
 pub none-asked : {r : Named} {n : ℕ} → packetsNamed r ≡ n → r ≡ named.Unknown → n ≡ 0
 none-asked e q = sym e ∙ ap packetsNamed q
 
--- Behind the first record, or where no part is asked for, a record is answered by its step.
-pub answered-plain : (number : ℕ) (e : Event) (b : Bench) → (1 < number) ⊎ (asksFor e ≡ 0) → answerTo number e b ≡ answer e b
-answered-plain number e b (inl h) = answered-later number e b h
-answered-plain number e b (inr h) = answered-none number e b h
+-- So record 1 finds the part that it asked for, or asks for none,
+pub opens-first : {t : Bool} {bytes w s q mem wire : List ℕ} {have : ℕ} {out : List ℕ} → Starting bytes w s q mem wire have out → AskedBy t (asked bytes) → Opens t 1 bytes (holding (viewOf strips w s q mem) (take have wire) out)
+opens-first {bytes = bytes} p a = (
+  λ e. (refl, a .0 e, p .bench ∙ ap (λ (n : ℕ). startedOn (powered strips n)) (starts-part (asked bytes) (a .0 e))),
+  λ e. inr (a .1 e),
+)
 
--- The first that asks for a part is done, and the part powers up that it asks for.
-pub answered-first : (e : Event) → 0 < asksFor e → answerTo 1 e atFirst ≡ record { reply = done; after = startedOn (powered strips (startsAs e)) }
-answered-first e h = answered-part e atFirst h ∙ ap (λ (n : ℕ). record { reply = done; after = startedOn (powered strips n) }) (sym (starts-part e h))
+-- whatever its number is told by,
+pub opens-as : {t : Bool} {m n : ℕ} (bytes : List ℕ) (b : Bench) → m ≡ n → Opens t m bytes b → Opens t n bytes b
+opens-as {t} bytes b e o = subst (λ (k : ℕ). Opens t k bytes b) e o
 
--- A record is served where the state stands for the bench after it, and its line for the reply.
-pub served-as : {number : ℕ} {bytes : List ℕ} {b : Bench} {x : Answered} {w s q mem wire : List ℕ} {have : ℕ} {out text : List ℕ} {end : ℕ}
-    → answerTo number (asked bytes) b ≡ x → HeldOf strips w s q mem wire have → holding (viewOf strips w s q mem) (take have wire) out ≡ x .after
-    → take end text ≡ line number (x .reply) → end ≤ length text → ServedOf strips number bytes b w s q mem wire have out text end
-served-as {number} e held bench text fits = record {
-  held = held;
-  bench = bench ∙ sym (ap (λ (a : Answered). a .after) e);
-  text = text ∙ sym (ap (λ (a : Answered). line number (a .reply)) e);
-  fits = fits;
-}
+-- and every other comes later.
+pub opens-later : {number : ℕ} (bytes : List ℕ) (b : Bench) → 1 < number → Opens false number bytes b
+opens-later bytes b h = (λ e. absurd (true≢false (sym e)), λ e. inl h)
 
--- And on the bench that the rules start with, where the state stood for that.
-pub served-first : {bytes w s q mem wire : List ℕ} {have : ℕ} {out : List ℕ} {k : ℕ} {w′ s′ q′ mem′ wire′ : List ℕ} {have′ : ℕ} {out′ text : List ℕ} {end : ℕ}
-    → Starting bytes w s q mem wire have out → asksFor (asked bytes) ≡ 0 → k ≡ 1 → ServedOf strips k bytes (holding (viewOf strips w s q mem) (take have wire) out) w′ s′ q′ mem′ wire′ have′ out′ text end
-    → ServedOf strips 1 bytes atFirst w′ s′ q′ mem′ wire′ have′ out′ text end
-served-first {bytes} {w} {s} {q} {mem} {wire} {have} {out} {w′ = w′} {s′ = s′} {q′ = q′} {mem′ = mem′} {wire′ = wire′} {have′ = have′} {out′ = out′} {text = text} {end = end} p none first x =
-    let start = p .bench ∙ ap (λ (n : ℕ). startedOn (powered strips n)) (starts-none (asked bytes) none) in
-    subst (λ (b : Bench). ServedOf strips 1 bytes b w′ s′ q′ mem′ wire′ have′ out′ text end) start (subst (λ (n : ℕ). ServedOf strips n bytes (holding (viewOf strips w s q mem) (take have wire) out) w′ s′ q′ mem′ wire′ have′ out′ text end) first x)
+-- A record that has started the part is done,
+pub turns-started : {t : Bool} {number : ℕ} (bytes : List ℕ) {w s q mem wire : List ℕ} {have : ℕ} {out : List ℕ} → HeldOf strips w s q mem wire have → t ≡ true → Opens t number bytes (holding (viewOf strips w s q mem) (take have wire) out)
+    → TurnsOf strips (answerTo number (asked bytes) (answersOn t (holding (viewOf strips w s q mem) (take have wire) out))) (Done 0) w s q mem wire have out
+turns-started {t} {number} bytes {w} {s} {q} {mem} {wire} {have} {out} h e o =
+    let f = o .0 e in
+    let x : answerTo number (asked bytes) (answersOn t (holding (viewOf strips w s q mem) (take have wire) out)) ≡ record { reply = done; after = startedOn (powered strips (asksFor (asked bytes))) } =
+    (λ i. answerTo (f .0 i) (asked bytes) (answersOn (e i) (holding (viewOf strips w s q mem) (take have wire) out))) ∙ answered-part (asked bytes) atFirst (f .1) in
+    record { reply = sym (ap (λ (a : Answered). a .reply) x); bench = f .2 ∙ sym (ap (λ (a : Answered). a .after) x); held = h }
+
+-- and any other is answered by its step.
+pub turns-plain : {t : Bool} {number : ℕ} (bytes : List ℕ) {b : Bench} {a : Answer} {w s q mem wire : List ℕ} {have : ℕ} {out : List ℕ} → TurnsOf strips (answer (asked bytes) b) a w s q mem wire have out → t ≡ false → Opens t number bytes b
+    → TurnsOf strips (answerTo number (asked bytes) (answersOn t b)) a w s q mem wire have out
+turns-plain {t} {number} bytes {b} {a} {w} {s} {q} {mem} {wire} {have} {out} r e o = subst (λ (x : Answered). TurnsOf strips x a w s q mem wire have out) (sym (ap (λ (u : Bool). answerTo number (asked bytes) (answersOn u b)) e ∙ plainly (o .1 e))) r
+  where
+    plainly : (1 < number) ⊎ (asksFor (asked bytes) ≡ 0) → answerTo number (asked bytes) b ≡ answer (asked bytes) b
+    plainly (inl h) = answered-later number (asked bytes) b h
+    plainly (inr h) = answered-none number (asked bytes) b h
+
+-- A record is served where its turn is the rules', and its line that of the answer.
+pub served-as : {number : ℕ} {bytes : List ℕ} {b : Bench} {a : Answer} {w s q mem wire : List ℕ} {have : ℕ} {out text : List ℕ} {end : ℕ} → TurnsOf strips (answerTo number (asked bytes) b) a w s q mem wire have out
+    → take end text ≡ line number (replyOf a) → end ≤ length text → ServedOf strips number bytes b w s q mem wire have out text end
+served-as {number} r text fits = record { held = r .held; bench = r .bench; text = text ∙ ap (line number) (r .reply); fits = fits }
 
 -- The first bytes of a memory that is 0.
 front-zeros : (k m : ℕ) → k ≤ m → take {A = ℕ} k (replicate m 0) ≡ replicate k 0

@@ -6,18 +6,17 @@ use state::Named;
 use state::Part;
 use streams::Reading;
 ghost use mathlib.Core.Path.{_≡_};
-ghost use mathlib.Core.Logic.{_⊎_};
-ghost use Prim.Native.Nat.{_≤_, _<_};
+ghost use Prim.Native.Nat.{ℕ, _≤_};
 ghost use lib.ListN.{length, take};
 ghost use Rattle.rules.specs.Chip.{strips};
-ghost use Rattle.rules.specs.Bench.{asksFor};
+ghost use Rattle.rules.specs.Bench.{asksFor, answerTo};
 ghost use Rattle.records.specs.Counting.{Counts};
 ghost use Rattle.records.specs.Gathers.{holding};
 ghost use Rattle.state.specs.Meaning.{packetsOf, packetsNamed};
 ghost use Rattle.state.specs.View.{viewOf};
-ghost use Rattle.turns.specs.Turns.{HeldOf};
+ghost use Rattle.turns.specs.Turns.{HeldOf, TurnsOf};
 ghost use Rattle.turns.specs.Served.{asked, ServedOf};
-ghost use Rattle.strip_serving.specs.First.{atFirst, startsAs, Starting};
+ghost use Rattle.strip_serving.specs.First.{answersOn, startsAs, AskedBy, Opens};
 
 // Reads a record: eight bytes, or those that are left where the input ends. That it cannot be read is said. Returns how many bytes there are.
 fn read_record(program: &[u8], bytes: &mut [u8], number: u64) -> usize
@@ -38,7 +37,28 @@ fn read_record(program: &[u8], bytes: &mut [u8], number: u64) -> usize
     filled
 }
 
-// Answers a record, behind the first or one that asks for no part, and writes its line to the front of the buffer; returns the place behind it.
+// The answer to a record. One that asked for the part, as record 1, is done: `started` tells that its part has powered up.
+fn turn(
+    words: &mut [u16],
+    counts: &mut [u32],
+    queues: &mut [u8],
+    memory: &mut [u8],
+    wire: &mut [u8],
+    have: &mut usize,
+    out: &mut [u8],
+    bytes: &[u8],
+    started: bool,
+) -> Answer
+    requires { ⌜ HeldOf strips (now words) (now counts) (now queues) (now memory) (now wire) (now have) × (length (now bytes) ≤ 8) ⌝ }
+    ensures { λ a. ⌜ ((number : ℕ) → Opens started number (now (bytes .entry)) (holding (viewOf strips (now (words .entry)) (now (counts .entry)) (now (queues .entry)) (now (memory .entry))) (take (now (have .entry)) (now (wire .entry))) (now (out .entry))) → TurnsOf strips (answerTo number (asked (now (bytes .entry))) (answersOn started (holding (viewOf strips (now (words .entry)) (now (counts .entry)) (now (queues .entry)) (now (memory .entry))) (take (now (have .entry)) (now (wire .entry))) (now (out .entry))))) a (now (words .exit)) (now (counts .exit)) (now (queues .exit)) (now (memory .exit)) (now (wire .exit)) (now (have .exit)) (now (out .exit))) ⌝ }
+{
+    if started {
+        return Answer::Done(0);
+    }
+    answer(words, counts, queues, memory, wire, have, out, bytes)
+}
+
+// Answers a record, and writes its line to the front of the buffer; returns the place behind it.
 fn serve_record(
     words: &mut [u16],
     counts: &mut [u32],
@@ -48,14 +68,25 @@ fn serve_record(
     have: &mut usize,
     out: &mut [u8],
     bytes: &[u8],
+    started: bool,
     counter: Counter,
     line: &mut [u8],
 ) -> usize
     requires { ⌜ HeldOf strips (now words) (now counts) (now queues) (now memory) (now wire) (now have) ⌝ }
-    requires { ⌜ (length (now bytes) ≤ 8) × Counts counter × (length (now line) ≡ 40) × ((1 < counter .number) ⊎ (asksFor (asked (now bytes)) ≡ 0)) ⌝ }
-    ensures { λ end. ⌜ ServedOf strips (counter .number) (now (bytes .entry)) (holding (viewOf strips (now (words .entry)) (now (counts .entry)) (now (queues .entry)) (now (memory .entry))) (take (now (have .entry)) (now (wire .entry))) (now (out .entry))) (now (words .exit)) (now (counts .exit)) (now (queues .exit)) (now (memory .exit)) (now (wire .exit)) (now (have .exit)) (now (out .exit)) (now (line .exit)) end ⌝ }
+    requires { ⌜ (length (now bytes) ≤ 8) × Counts counter × (length (now line) ≡ 40) × Opens started (counter .number) (now bytes) (holding (viewOf strips (now words) (now counts) (now queues) (now memory)) (take (now have) (now wire)) (now out)) ⌝ }
+    ensures { λ end. ⌜ ServedOf strips (counter .number) (now (bytes .entry)) (answersOn started (holding (viewOf strips (now (words .entry)) (now (counts .entry)) (now (queues .entry)) (now (memory .entry))) (take (now (have .entry)) (now (wire .entry))) (now (out .entry)))) (now (words .exit)) (now (counts .exit)) (now (queues .exit)) (now (memory .exit)) (now (wire .exit)) (now (have .exit)) (now (out .exit)) (now (line .exit)) end ⌝ }
 {
-    let given = answer(words, counts, queues, memory, wire, have, out, bytes);
+    let given = turn(
+        words,
+        counts,
+        queues,
+        memory,
+        wire,
+        have,
+        out,
+        bytes,
+        started,
+    );
     records::line_at(line, 0, counter, state::printed(given))
 }
 
@@ -70,50 +101,25 @@ fn part_in(bytes: &[u8]) -> Named
     records::part_asked(bytes)
 }
 
-// The part that powers up for record 1.
-fn part_for(bytes: &[u8]) -> Part
-    requires { ⌜ length (now bytes) ≤ 8 ⌝ }
-    ensures { λ p. ⌜ packetsOf p ≡ startsAs (asked (now (bytes .entry))) ⌝ }
-{
-    let named = part_in(bytes);
-    match named {
-        Named::Known(part) => part,
-        Named::Unknown => Part::Lan91c96,
-    }
+// The part that powers up, and whether record 1 asked for it.
+struct Opening {
+    part: Part,
+    asked: bool,
 }
 
-// Answers record 1 on the chip that powered up for it, and writes its line, as `serve_record`. One that asks for the part has then got it.
-fn serve_first(
-    words: &mut [u16],
-    counts: &mut [u32],
-    queues: &mut [u8],
-    memory: &mut [u8],
-    wire: &mut [u8],
-    have: &mut usize,
-    out: &mut [u8],
-    bytes: &[u8],
-    line: &mut [u8],
-) -> usize
-    requires { ⌜ Starting (now bytes) (now words) (now counts) (now queues) (now memory) (now wire) (now have) (now out) ⌝ }
-    requires { ⌜ (length (now bytes) ≤ 8) × (length (now line) ≡ 40) ⌝ }
-    ensures { λ end. ⌜ ServedOf strips 1 (now (bytes .entry)) atFirst (now (words .exit)) (now (counts .exit)) (now (queues .exit)) (now (memory .exit)) (now (wire .exit)) (now (have .exit)) (now (out .exit)) (now (line .exit)) end ⌝ }
+// Without that it is the LAN91C96.
+fn opens_with(bytes: &[u8]) -> Opening
+    requires { ⌜ length (now bytes) ≤ 8 ⌝ }
+    ensures part { λ o. ⌜ packetsOf (o .part) ≡ startsAs (asked (now (bytes .entry))) ⌝ }
+    ensures asked { λ o. ⌜ AskedBy (o .asked) (asked (now (bytes .entry))) ⌝ }
 {
-    let counter = records::counter_of(1);
     let named = part_in(bytes);
     match named {
-        Named::Known(_) => records::line_at(line, 0, counter, state::printed(Answer::Done(0))),
-        Named::Unknown => serve_record(
-            words,
-            counts,
-            queues,
-            memory,
-            wire,
-            have,
-            out,
-            bytes,
-            counter,
-            line,
-        ),
+        Named::Known(part) => Opening { part, asked: true },
+        Named::Unknown => Opening {
+            part: Part::Lan91c96,
+            asked: false,
+        },
     }
 }
 
@@ -128,7 +134,7 @@ fn write_line(program: &[u8], line: &[u8], end: usize, number: u64) -> bool
     false
 }
 
-// Each record behind the first is served before the next is waited for, until the input ends. The loop ends at record 2^63, which no run comes to.
+// Each record is served before the next is waited for, until the input ends; record 1, of `first` bytes, has been read, and `asked` tells whether it asked for the part. The loop ends at record 2^63, which no run comes to.
 fn serve_from(
     program: &[u8],
     words: &mut [u16],
@@ -136,16 +142,20 @@ fn serve_from(
     queues: &mut [u8],
     memory: &mut [u8],
     wire: &mut [u8],
-    have: &mut usize,
     out: &mut [u8],
+    bytes: &mut [u8],
+    first: usize,
+    asked: bool,
 )
-    requires { ⌜ HeldOf strips (now words) (now counts) (now queues) (now memory) (now wire) (now have) ⌝ }
+    requires { ⌜ HeldOf strips (now words) (now counts) (now queues) (now memory) (now wire) 0 × (length (now bytes) ≡ 8) × (first ≤ 8) ⌝ }
+    requires { ⌜ Opens asked 1 (take first (now bytes)) (holding (viewOf strips (now words) (now counts) (now queues) (now memory)) (take 0 (now wire)) (now out)) ⌝ }
 {
-    let mut bytes = [0; 8];
+    let mut have = 0;
     let mut line = [0; 40];
-    let mut counter = records::counter_of(2);
+    let mut filled = first;
+    let mut started = asked;
+    let mut counter = records::counter_of(1);
     while counter.number < 0x8000000000000000 {
-        let filled = read_record(program, &mut bytes, counter.number);
         if filled == 0 {
             return;
         }
@@ -155,9 +165,10 @@ fn serve_from(
             queues,
             memory,
             wire,
-            have,
+            &mut have,
             out,
             &bytes[..filled],
+            started,
             counter,
             &mut line,
         );
@@ -167,53 +178,19 @@ fn serve_from(
         if filled < 8 {
             return;
         }
+        started = false;
         counter = records::next(counter);
+        filled = read_record(program, bytes, counter.number);
     }
-}
-
-// Record 1, which has been read, and the others.
-fn serve_all(
-    program: &[u8],
-    words: &mut [u16],
-    counts: &mut [u32],
-    queues: &mut [u8],
-    memory: &mut [u8],
-    wire: &mut [u8],
-    out: &mut [u8],
-    bytes: &[u8],
-)
-    requires { ⌜ Starting (now bytes) (now words) (now counts) (now queues) (now memory) (now wire) 0 (now out) × (length (now bytes) ≤ 8) ⌝ }
-{
-    let mut have = 0;
-    let mut line = [0; 40];
-    let end = serve_first(
-        words,
-        counts,
-        queues,
-        memory,
-        wire,
-        &mut have,
-        out,
-        bytes,
-        &mut line,
-    );
-    if !write_line(program, &line, end, 1) {
-        return;
-    }
-    if bytes.len() < 8 {
-        return;
-    }
-    serve_from(program, words, counts, queues, memory, wire, &mut have, out);
 }
 
 // The bench of strips to the end of the input; `program` is the name that it has on standard error. Record 1 is read before the chip powers up, for it may ask for the part.
 pub fn run(program: &[u8]) {
     let mut bytes = [0; 8];
     let filled = read_record(program, &mut bytes, 1);
-    if filled == 0 {
-        return;
-    }
-    let part = part_for(&bytes[..filled]);
+    let opening = opens_with(&bytes[..filled]);
+    let part = opening.part;
+    let asked = opening.asked;
     let n = state::packets_of(part);
     let start = strip_chip::power_up(part);
     let registers = start.registers;
@@ -225,7 +202,7 @@ pub fn run(program: &[u8]) {
     let mut memory = [0; 49152];
     let mut wire = [0; 2048];
     let mut out = [0; 2052];
-    serve_all(
+    serve_from(
         program,
         &mut words,
         &mut counts[..n],
@@ -233,6 +210,8 @@ pub fn run(program: &[u8]) {
         &mut memory[..2048 * n],
         &mut wire,
         &mut out,
-        &bytes[..filled],
+        &mut bytes,
+        filled,
+        asked,
     );
 }

@@ -1,11 +1,10 @@
 -- The answer is the rules', and its line stands alone at the front of the buffer.
 use borrow.Author.Needs.{needs}
-use mathlib.Core.Path.{ap, _∙_}
+use mathlib.Core.Path.{_∙_}
 use native.Mathlib.Omega.{arith}
 use Rattle.rules.specs.Bench.{line}
 use Rattle.records.specs.Parts.{taken}
-use Rattle.turns.specs.Served.{asked}
-use Rattle.strip_serving.specs.First.{answered-plain, served-as}
+use Rattle.strip_serving.specs.First.{served-as}
 use Rattle.strip_serving.proofs.serve.serve_record.Statement.{statement}
 use Rattle.strip_serving.proofs.serve.serve_record.Tie as tie
 
@@ -15,14 +14,12 @@ line-at-requires c κs = let s = c .before .before .before .before .before .befo
 returns : tie.Need-returns
 returns c =
     let s = c .before .before .before .before .before .before .before .before .before .before .before .before .before .before .before .before .before .before .before .before .before .before .before .before .before .before .before .before .before .before .before .before .before in
-    let a = c .before .before .before .before .before .before .before .before .before .before .before .before .before .before .before .before .before .answer .ensures in
+    let n = s .args .counter .number in
     let p = c .before .before .before .printed .ensures in
     let e = c .before .before .line-at .ensures in
     served-as
-    (answered-plain (s .args .counter .number) (asked (s .args .bytes .now)) _ (s .pre .1 .3))
-    (a .held)
-    (a .bench)
-    (taken (omega arith) (e .0) ∙ ap (line (s .args .counter .number)) ((λ i. record { number = p .0 i; value = p .1 i }) ∙ a .reply))
+    (c .before .before .before .before .before .before .before .before .before .before .before .before .before .before .before .before .before .turn .ensures n (s .pre .1 .3))
+    (taken (omega arith) (e .0) ∙ (λ i. line n (record { number = p .0 i; value = p .1 i })))
     (omega (arith, e .1, c .before .line .given, s .pre .1 .2))
 
 pub serve-record-spec : {M : Type 1} → statement M
