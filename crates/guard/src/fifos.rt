@@ -34,7 +34,7 @@ fn total(bytes: &[u8]) -> u16
 {
     let mut added = 0;
     let mut i = 0;
-    while i < bytes.len() {
+    while i < QUEUES_END {
         added += bytes[i] as u16;
         i += 1;
     }
