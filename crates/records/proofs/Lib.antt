@@ -1,6 +1,3 @@
 -- Laws that the proofs of the functions cite.
-pub mod Hex
-pub mod Packed
-pub mod Parts
+pub mod Asks
 pub mod Answered
-pub mod Bytes

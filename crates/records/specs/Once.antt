@@ -1,4 +1,4 @@
--- Each function that the crate exports has one result: two that meet its promise are equal. (`counter_of` and `next` promise the result itself, by `counterOf`.)
+-- Each function that the crate exports has one result: two that meet its promise are equal.
 use mathlib.Core.Path.{_≡_, refl, ap, ap₂, sym, _∙_}
 use mathlib.Core.List.{List, [], _++_}
 use Prim.Native.Nat.{ℕ}
@@ -11,7 +11,6 @@ use Rattle.rules.specs.Registers.{read, write, byte, word}
 use Rattle.rules.specs.Registers as registers
 use Rattle.rules.specs.Bench as rules
 use Rattle.rules.specs.Bench.{access, wire, frameEnds, send, linkSet, part, unknown, eventOf}
-use Rattle.lists.specs.Written.{Writes}
 use Rattle.state.specs.declared.Width.{Width}
 use Rattle.state.specs.declared.Width.the-variants as width
 use Rattle.records.specs.declared.event.Event.{Event}
@@ -80,7 +79,3 @@ module _ {before bytes after after′ : List ℕ} {have count : ℕ} {g h : Gath
 
   pub gathers-once : (g ≡ h) × (after ≡ after′)
   gathers-once = (gathering-known have g h (told (λ a. a .reply)) same-held, same-buffer)
-
--- The line that is written, and the place behind it.
-pub writes-once : {before bytes after after′ : List ℕ} {at end end′ : ℕ} → Writes before at bytes after end → Writes before at bytes after′ end′ → (after ≡ after′) × (end ≡ end′)
-writes-once x y = (x .buffer ∙ sym (y .buffer), x .place ∙ sym (y .place))

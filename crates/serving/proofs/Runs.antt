@@ -14,7 +14,7 @@ use Rattle.state.specs.Meaning.{replyOf}
 use Rattle.state.specs.View.{view, viewOf, figures}
 use Rattle.state.specs.Promise.{QueuesIn}
 use Rattle.records.specs.Gathers.{holding}
-use Rattle.records.specs.Parts.{taken}
+use Rattle.lines.specs.Parts.{taken}
 use Rattle.turns.specs.Turns.{Held, Turns}
 use Rattle.serving.specs.Batch as batch
 use Rattle.serving.specs.Batch.{formOf, Prints, recordAt, benchAfter, linesFor}

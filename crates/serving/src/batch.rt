@@ -1,5 +1,5 @@
 // The records at hand: each complete one is answered, and its line joins the lines to be written.
-use records::Counter;
+use lines::Counter;
 use state::Answer;
 ghost use mathlib.Core.Path.{_≡_};
 ghost use mathlib.Core.Bool.{false};
@@ -11,8 +11,8 @@ ghost use Rattle.rules.specs.Watch.{isSend};
 ghost use Rattle.state.specs.Meaning.{replyOf};
 ghost use Rattle.state.specs.View.{view, figures, Kept};
 ghost use Rattle.state.specs.Promise.{QueuesIn};
-ghost use Rattle.records.specs.Counting.{Counts};
 ghost use Rattle.records.specs.Gathers.{holding};
+ghost use Rattle.lines.specs.Counting.{Counts};
 ghost use Rattle.turns.specs.Turns.{Held};
 ghost use Rattle.serving.specs.Batch.{formOf, widest, roomFor, Prints, Answered};
 ghost use Rattle.serving.specs.Printed.{lastLine};
@@ -33,9 +33,9 @@ pub fn print(
 {
     let shown = state::printed(answer);
     if !watching {
-        return records::line_at(lines, at, counter, shown);
+        return lines::line_at(lines, at, counter, shown);
     }
-    records::watched_at(lines, at, counter, shown, up, sent, out)
+    lines::watched_at(lines, at, counter, shown, up, sent, out)
 }
 
 // The line of a record that is no send, by itself at the front of the buffer; returns the place behind it.
@@ -51,7 +51,7 @@ pub fn lone_line(
     ensures text { λ end. ⌜ ((e : Event) (s q mem wire : List ℕ) → isSend e ≡ false → QueuesIn (figures (now (words .entry))) q → take end (now (lines .exit)) ≡ formOf watching number e (record { reply = replyOf answer; after = holding (view (now (words .entry)) s q mem) wire (now (out .entry)) })) ⌝ }
     ensures fits { λ end. ⌜ end ≤ length (now (lines .entry)) ⌝ }
 {
-    let counter = records::counter_of(number);
+    let counter = lines::counter_of(number);
     let up = registers::line_up(words);
     print(watching, lines, 0, counter, answer, false, up, out)
 }
@@ -97,14 +97,14 @@ pub fn answer_all(
 {
     let mut k = 0;
     *end = 0;
-    let mut counter = records::counter_of(*number);
+    let mut counter = lines::counter_of(*number);
     while k < input.len() / 8 {
         let bytes = &input[8 * k..8 * k + 8];
         let given = turns::answer(words, sets, queues, memory, wire, have, out, bytes);
         let sent = records::is_send(bytes);
         let up = registers::line_up(words);
         *end = print(watching, lines, *end, counter, given, sent, up, out);
-        counter = records::next(counter);
+        counter = lines::next(counter);
         k += 1;
     }
     *number = counter.number;

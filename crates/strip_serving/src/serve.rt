@@ -1,6 +1,6 @@
 // From standard input to standard output: a record is read, answered, and its line written, before the next is waited for.
 use crate::turn::answer;
-use records::Counter;
+use lines::Counter;
 use state::Answer;
 use state::Named;
 use state::Part;
@@ -10,7 +10,7 @@ ghost use Prim.Native.Nat.{ℕ, _≤_};
 ghost use lib.ListN.{length, take};
 ghost use Rattle.rules.specs.Chip.{strips};
 ghost use Rattle.rules.specs.Bench.{asksFor, answerTo};
-ghost use Rattle.records.specs.Counting.{Counts};
+ghost use Rattle.lines.specs.Counting.{Counts};
 ghost use Rattle.records.specs.Gathers.{holding};
 ghost use Rattle.state.specs.Meaning.{packetsOf, packetsNamed};
 ghost use Rattle.state.specs.View.{viewOf};
@@ -87,7 +87,7 @@ fn serve_record(
         bytes,
         started,
     );
-    records::line_at(line, 0, counter, state::printed(given))
+    lines::line_at(line, 0, counter, state::printed(given))
 }
 
 // The part that record 1 asks for, if it has eight bytes and asks for one.
@@ -154,7 +154,7 @@ fn serve_from(
     let mut line = [0; 40];
     let mut filled = first;
     let mut started = asked;
-    let mut counter = records::counter_of(1);
+    let mut counter = lines::counter_of(1);
     while counter.number < 0x8000000000000000 {
         if filled == 0 {
             return;
@@ -179,7 +179,7 @@ fn serve_from(
             return;
         }
         started = false;
-        counter = records::next(counter);
+        counter = lines::next(counter);
         filled = read_record(program, bytes, counter.number);
     }
 }

@@ -1,6 +1,6 @@
 use borrow.Author.Needs.{needs}
 use mathlib.Core.Path.{sym}
-use Rattle.records.proofs.Bytes.{send-kind}
+use Rattle.records.proofs.Asks.{send-kind}
 use Rattle.records.proofs.event.is_send.Statement.{statement}
 use Rattle.records.proofs.event.is_send.Tie as tie
 

@@ -1,7 +1,7 @@
 -- By the kind, then by what byte 1 names.
 use borrow.Author.Needs.{needs}
 use mathlib.Core.Path.{sym, _∙_}
-use Rattle.records.proofs.Bytes.{asks-part, asks-none}
+use Rattle.records.proofs.Asks.{asks-part, asks-none}
 use Rattle.records.proofs.event.part_asked.Statement.{statement}
 use Rattle.records.proofs.event.part_asked.Tie as tie
 

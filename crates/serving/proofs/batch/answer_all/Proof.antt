@@ -7,8 +7,8 @@ use native.Mathlib.Omega.{arith}
 use lib.ListN.{length, take, drop, length-drop}
 use lib.Seq.{length-take-le}
 use Rattle.state.specs.View.{view}
-use Rattle.records.specs.Counting.{Counts, counter-number, counter-counts}
 use Rattle.records.specs.Gathers.{holding}
+use Rattle.lines.specs.Counting.{Counts, counter-number, counter-counts}
 use Rattle.serving.specs.Batch.{Answered, recordAt}
 use Rattle.serving.specs.Batch.{formOf, widest, roomFor}
 use Rattle.serving.proofs.Runs.{none-yet, one-more}

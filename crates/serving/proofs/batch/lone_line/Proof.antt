@@ -7,8 +7,8 @@ use Rattle.rules.specs.Chip.{paged}
 use Rattle.state.specs.Meaning.{replyOf}
 use Rattle.state.specs.View.{view}
 use Rattle.records.specs.Gathers.{holding}
-use Rattle.records.specs.Counting.{counter-number, counter-counts}
-use Rattle.records.specs.Parts.{taken}
+use Rattle.lines.specs.Counting.{counter-number, counter-counts}
+use Rattle.lines.specs.Parts.{taken}
 use Rattle.serving.specs.Batch.{formOf}
 use Rattle.serving.proofs.Forms.{room-none, room-more}
 use Rattle.serving.proofs.batch.lone_line.Statement.{statement}

@@ -7,7 +7,7 @@ use lib.ListN.{length, take, length-replicate}
 use lib.Seq.{length-take-le}
 use Rattle.rules.specs.Chip.{strips}
 use Rattle.state.specs.View.{viewOf}
-use Rattle.records.specs.Counting.{Counts, counter-number, counter-counts}
+use Rattle.lines.specs.Counting.{Counts, counter-number, counter-counts}
 use Rattle.records.specs.Gathers.{holding}
 use Rattle.turns.specs.Turns.{HeldOf}
 use Rattle.strip_serving.specs.First.{Opens, opens-as, opens-later}

@@ -3,7 +3,7 @@ use borrow.Author.Needs.{needs}
 use mathlib.Core.Path.{_∙_}
 use native.Mathlib.Omega.{arith}
 use Rattle.rules.specs.Bench.{line}
-use Rattle.records.specs.Parts.{taken}
+use Rattle.lines.specs.Parts.{taken}
 use Rattle.strip_serving.specs.First.{served-as}
 use Rattle.strip_serving.proofs.serve.serve_record.Statement.{statement}
 use Rattle.strip_serving.proofs.serve.serve_record.Tie as tie
