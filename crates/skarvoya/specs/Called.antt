@@ -1,8 +1,7 @@
 -- From what a step promises to what a call promises.
 use mathlib.Core.Path.{_≡_, refl, ap, sym, subst, _∙_}
-use mathlib.Core.Logic.{inl, inr}
 use mathlib.Core.List.{List, [], _++_, append-nil}
-use Prim.Native.Nat.{ℕ, _*_, _≤_, _<_}
+use Prim.Native.Nat.{ℕ, _*_}
 use native.Mathlib.Omega.{arith}
 use lib.ListN.{drop, drop-of-length-le}
 use Rattle.rules.specs.Parts.{IsPart, partNamed}
@@ -10,21 +9,14 @@ use Rattle.rules.specs.Chip.{paged}
 use Rattle.rules.specs.Answers.{refusal}
 use Rattle.rules.specs.Registers.{Width, Access}
 use Rattle.rules.specs.Step.{Input, driver, lent, step}
+use Rattle.wellformed.specs.Parts.{part-some}
 use Rattle.state.specs.declared.Answer.{Answer}
 use Rattle.state.specs.declared.Answer.the-variants.{Done, Damaged}
 use Rattle.state.specs.Meaning.{replyOf}
 use Rattle.state.specs.Entry.{recordView, Whole, Leaves, zeros, StartedOf}
 use Rattle.chip.specs.Rights.{damaged, answered}
-use Rattle.skarvoya.specs.Calls.{told, Calls, LongAs, StartsPart, Refuses, PowersUp}
-
--- A part has packets, and no more than a record has places.
-pub part-some : {n : ℕ} → IsPart n → 0 < n
-part-some (inl e) = omega (arith, e)
-part-some (inr e) = omega (arith, e)
-
-pub part-few : {n : ℕ} → IsPart n → n ≤ 24
-part-few (inl e) = omega (arith, e)
-part-few (inr e) = omega (arith, e)
+use Rattle.lent.specs.Lent.{told, LongAs, StartsPart}
+use Rattle.skarvoya.specs.Calls.{Calls, Refuses, PowersUp}
 
 module _ {w s q mem : List ℕ} {n : ℕ} where
   -- What is not in order is refused.

@@ -1,48 +1,24 @@
 -- What the functions of the chip promise, whatever was lent: what its public entries do, told by one number.
 use mathlib.Core.Path.{_≡_}
-use mathlib.Core.Bool.{Bool, cond}
-use mathlib.Core.List.{List, _++_}
-use Prim.Native.Nat.{ℕ, _+_, _*_, _<_}
-use lib.ListN.{length, drop}
+use mathlib.Core.List.{List}
+use Prim.Native.Nat.{ℕ, _<_}
 use Rattle.rules.specs.Bits.{flag}
 use Rattle.rules.specs.Parts.{partNamed}
 use Rattle.rules.specs.Chip.{paged}
-use Rattle.rules.specs.Answers.{Reply, refusal}
+use Rattle.rules.specs.Answers.{refusal}
 use Rattle.rules.specs.Interrupts.{lineUp}
-use Rattle.rules.specs.Registers.{Width, byte, word}
 use Rattle.rules.specs.Step.{Input}
 use Rattle.state.specs.declared.Answer.{Answer}
 use Rattle.state.specs.declared.Answer.the-variants.{Done}
 use Rattle.state.specs.Meaning.{replyOf}
 use Rattle.state.specs.Entry.{recordView, Holds, AnswersOf, zeros, StartedOf}
-
--- what a call returns: the answer's number, and 16 bits of value below it
-abbrev pub told : Reply → ℕ
-told r = r .number * 65536 + r .value
-
-abbrev pub wide : Bool → Width
-wide b = cond b word byte
+use Rattle.lent.specs.Lent.{told, LongAs}
 
 -- the input i on a lent record w, s, q and memory: the promise of a public entry, and its answer is told
 pub record Calls (i : Input) (w s q mem : List ℕ) (n : ℕ) (w′ s′ q′ mem′ out′ : List ℕ) : Type 0 where
   pub answer : Answer
   pub entry : AnswersOf paged i w s q mem answer w′ s′ q′ mem′ out′
   pub returned : n ≡ told (replyOf answer)
-
--- a record as long as it must be, whatever is in it
-pub record Sized (w s q : List ℕ) : Type 0 where
-  pub words : length w ≡ 32
-  pub sets : length s ≡ 24
-  pub queues : length q ≡ 72
-
--- beside it as many bytes as the part with k packets has
-abbrev pub LongAs : ℕ → List ℕ → List ℕ → List ℕ → List ℕ → Type 0
-LongAs k w s q mem = Sized w s q × (length mem ≡ 256 * k)
-
--- the record of the part with k packets at power-up, beside its zero bytes; what was behind them is there still
-pub record StartsPart (k : ℕ) (mem w′ s′ q′ mem′ : List ℕ) : Type 0 where
-  pub state : StartedOf paged k (Done 0) w′ s′ q′
-  pub memory : mem′ ≡ zeros paged k ++ drop (256 * k) mem
 
 -- a refusal, and nothing changes
 pub record Refuses (number : ℕ) (w s q mem : List ℕ) (n : ℕ) (w′ s′ q′ mem′ : List ℕ) : Type 0 where

@@ -16,7 +16,8 @@ use Rattle.state.specs.Entry.{sizeIn, Holds}
 use Rattle.state.specs.Only.{one-record, only, started-once}
 use Rattle.state.specs.Decided.{holds?}
 use Rattle.turns.specs.Once.{same-place, Same}
-use Rattle.skarvoya.specs.Calls.{told, Calls, Sized, LongAs, Refuses, PowersUp, ShowsLine}
+use Rattle.lent.specs.Lent.{told, Sized, LongAs}
+use Rattle.skarvoya.specs.Calls.{Calls, Refuses, PowersUp, ShowsLine}
 use Rattle.skarvoya.specs.Records.{ofMemory, behindMemory, BenchInOrder, Roomy, TurnsBench, ServesNext, RefusesRecord, AnswersRecord}
 
 -- An access, a frame, a send, a link event.

@@ -13,6 +13,7 @@ use Rattle.rules.specs.Chip.{paged}
 use Rattle.rules.specs.Answers.{refusal, done}
 use Rattle.rules.specs.Bench.{Event, unknown, eventOf, Bench, Answered, answer, asksFor, startedAs, answerFirst, answerTo}
 use Rattle.lists.specs.Written.{Writes}
+use Rattle.wellformed.specs.Parts.{part-some, part-few}
 use Rattle.records.specs.Gathers.{holding}
 use Rattle.state.specs.declared.Answer.{Answer}
 use Rattle.state.specs.declared.Answer.the-variants.{Done, CutShort}
@@ -21,8 +22,7 @@ use Rattle.state.specs.Entry.{InOrder, Whole, sizeIn, recordView, zeros}
 use Rattle.state.specs.Places.{size-told, places-told, names-part, record-long, lent-in-order, holds-back, view-back, places-left}
 use Rattle.turns.specs.Turns.{Held, Turns}
 use Rattle.turns.specs.Served.{asked, asked-short, asked-whole}
-use Rattle.skarvoya.specs.Calls.{told, StartsPart}
-use Rattle.skarvoya.specs.Called.{part-some, part-few}
+use Rattle.lent.specs.Lent.{told, StartsPart}
 use Rattle.skarvoya.specs.Records.{ofMemory, behindMemory, benchOf, BenchHeld, partStarted, TurnsBench, RefusesRecord}
 
 -- A refusal of what was lent, by which nothing changes.

@@ -13,7 +13,7 @@ use Rattle.state.specs.declared.Answer.{Answer}
 use Rattle.state.specs.Meaning.{replyOf}
 use Rattle.state.specs.Entry.{sizeIn, recordView, Holds}
 use Rattle.turns.specs.Served.{asked}
-use Rattle.skarvoya.specs.Calls.{told}
+use Rattle.lent.specs.Lent.{told}
 
 -- A bench is lent room for the memory of either part: that of its part is the first bytes of it.
 abbrev pub ofMemory : List ℕ → List ℕ → List ℕ

@@ -1,12 +1,13 @@
 // Accesses of the driver to the sixteen I/O addresses.
-use crate::order::in_order;
-use crate::told::told;
-use crate::told::width_of;
+use lent::in_order;
+use lent::told;
+use lent::width_of;
 use state::Answer;
 ghost use mathlib.Core.List.{[]};
 ghost use Rattle.rules.specs.Registers as registers;
 ghost use Rattle.rules.specs.Step as rules;
-ghost use Rattle.skarvoya.specs.Calls.{wide, Calls};
+ghost use Rattle.lent.specs.Lent.{wide};
+ghost use Rattle.skarvoya.specs.Calls.{Calls};
 
 // Reads a word or a byte.
 #[no_mangle]

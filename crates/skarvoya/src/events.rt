@@ -1,6 +1,6 @@
 // Arriving frames, finished sends and link events.
-use crate::order::in_order;
-use crate::told::told;
+use lent::in_order;
+use lent::told;
 use state::Answer;
 ghost use mathlib.Core.List.{[]};
 ghost use Rattle.rules.specs.Step as rules;

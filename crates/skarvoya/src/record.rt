@@ -1,7 +1,7 @@
 // A record of the bench, and its printed line.
-use crate::entries::started;
-use crate::order::ready;
-use crate::told::told;
+use lent::ready;
+use lent::started;
+use lent::told;
 use on_wire::OUTPUT_BYTES;
 use state::Answer;
 use state::Named;
@@ -149,8 +149,8 @@ fn serve(
         number,
         bytes,
     );
-    let counter = records::counter_of(number);
-    *printed = records::line_at(line, 0, counter, state::printed(given));
+    let counter = lines::counter_of(number);
+    *printed = lines::line_at(line, 0, counter, state::printed(given));
     given
 }
 

@@ -3,8 +3,8 @@ use mathlib.Core.Path.{ap, _∙_}
 use Prim.Native.Nat.{ℕ}
 use native.Mathlib.Omega.{arith}
 use Rattle.rules.specs.Bench.{line}
-use Rattle.records.specs.Counting.{counter-number, counter-counts}
-use Rattle.records.specs.Parts.{taken}
+use Rattle.lines.specs.Counting.{counter-number, counter-counts}
+use Rattle.lines.specs.Parts.{taken}
 use Rattle.skarvoya.specs.Recorded.{rest-stays}
 use borrow.Author.Needs.{needs}
 use Rattle.skarvoya.proofs.record.serve.Statement.{statement}

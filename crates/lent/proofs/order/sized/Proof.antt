@@ -3,8 +3,8 @@ use mathlib.Core.Path.{sym}
 use mathlib.Core.Bool.{true≢false}
 use native.Mathlib.Omega.{arith}
 use borrow.Author.Tests.{eqb-true, eq-eqb}
-use Rattle.skarvoya.proofs.order.sized.Statement.{statement}
-use Rattle.skarvoya.proofs.order.sized.Tie as tie
+use Rattle.lent.proofs.order.sized.Statement.{statement}
+use Rattle.lent.proofs.order.sized.Tie as tie
 
 returns : tie.Need-returns
 returns c = record { sound = λ e. absurd (true≢false (sym e)); complete = λ o. absurd (omega (arith, o .words, c .if1 .taken)) }

@@ -3,10 +3,10 @@ use mathlib.Core.Path.{sym}
 use mathlib.Core.Bool.{true≢false}
 use native.Mathlib.Omega.{arith}
 use Rattle.chip.specs.Rights.{is-a-part}
-use Rattle.skarvoya.specs.Called.{part-few}
+use Rattle.wellformed.specs.Parts.{part-few}
 use borrow.Author.Needs.{needs}
-use Rattle.skarvoya.proofs.order.long_as.Statement.{statement}
-use Rattle.skarvoya.proofs.order.long_as.Tie as tie
+use Rattle.lent.proofs.order.long_as.Statement.{statement}
+use Rattle.lent.proofs.order.long_as.Tie as tie
 
 returns : tie.Need-returns
 returns c = record { sound = λ e. absurd (true≢false (sym e)); complete = λ o. absurd (omega (arith, o .1, c .before .packets-of .ensures, c .if1 .taken)) }

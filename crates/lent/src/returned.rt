@@ -3,7 +3,7 @@ use state::Answer;
 use state::Width;
 ghost use mathlib.Core.Path.{_≡_};
 ghost use Rattle.state.specs.Meaning.{replyOf, widthOf};
-ghost use Rattle.skarvoya.specs.Calls.{told, wide};
+ghost use Rattle.lent.specs.Lent.{told, wide};
 
 // The answer's number, and 16 bits of value below it.
 pub fn told(answer: Answer) -> u32

@@ -6,8 +6,8 @@ use native.Mathlib.Omega.{arith}
 use borrow.Author.Fill.{fill-more}
 use borrow.Author.Needs.{needs}
 use lib.ListN.{length, drop, set, replicate, drop-of-length-le, length-set}
-use Rattle.skarvoya.proofs.entries.zeroed.Statement.{statement}
-use Rattle.skarvoya.proofs.entries.zeroed.Tie as tie
+use Rattle.lent.proofs.start.zeroed.Statement.{statement}
+use Rattle.lent.proofs.start.zeroed.Tie as tie
 
 abbrev Inv-loop : tie.InvT-loop
 Inv-loop bytes₀ k₀ bytes k = (k ≤ length bytes₀) × (length bytes ≡ length bytes₀) × (bytes ≡ replicate k 0 ++ drop k bytes₀)

@@ -4,8 +4,8 @@ use mathlib.Core.Bool.{true≢false}
 use Rattle.state.specs.Places.{record-long}
 use Rattle.chip.specs.Rights.{not-in, is-in}
 use borrow.Author.Needs.{needs}
-use Rattle.skarvoya.proofs.order.ready.Statement.{statement}
-use Rattle.skarvoya.proofs.order.ready.Tie as tie
+use Rattle.lent.proofs.order.ready.Statement.{statement}
+use Rattle.lent.proofs.order.ready.Tie as tie
 
 returns : tie.Need-returns
 returns c = record { sound = λ e. absurd (true≢false (sym e)); complete = λ o. absurd (not-in (c .before .sized .ensures) (c .if1 .taken) (record { words = o .ready .sound .kept .whole; sets = record-long o; queues = o .ready .sound .queues .long })) }

@@ -5,8 +5,8 @@ use Prim.Native.Nat.{ℕ, _*_}
 use borrow.Author.Tests.{eqb-true, eq-eqb}
 use Rattle.chip.specs.Rights.{not-in, is-in}
 use borrow.Author.Needs.{needs}
-use Rattle.skarvoya.proofs.order.in_order.Statement.{statement}
-use Rattle.skarvoya.proofs.order.in_order.Tie as tie
+use Rattle.lent.proofs.order.in_order.Statement.{statement}
+use Rattle.lent.proofs.order.in_order.Tie as tie
 
 returns : tie.Need-returns
 returns c = record { sound = λ e. absurd (true≢false (sym e)); complete = λ o. absurd (not-in (c .before .ready .ensures) (c .if1 .taken) (o .holds)) }

@@ -6,8 +6,8 @@ use native.Mathlib.Omega.{arith}
 use lib.ListN.{length, take, drop, replicate}
 use lib.Seq.{length-take-le}
 use borrow.Author.Needs.{needs}
-use Rattle.skarvoya.proofs.entries.started.Statement.{statement}
-use Rattle.skarvoya.proofs.entries.started.Tie as tie
+use Rattle.lent.proofs.start.started.Statement.{statement}
+use Rattle.lent.proofs.start.started.Tie as tie
 
 -- so many bytes are the part's
 module _ (x : tie.After-packets-of) where

@@ -3,7 +3,7 @@ use state::Part;
 ghost use Rattle.lists.specs.Facts.{Decides};
 ghost use Rattle.state.specs.Meaning.{packetsOf};
 ghost use Rattle.state.specs.Entry.{Holds, Whole};
-ghost use Rattle.skarvoya.specs.Calls.{Sized, LongAs};
+ghost use Rattle.lent.specs.Lent.{Sized, LongAs};
 
 // Has a record its 32 words, 24 page sets and 72 bytes?
 pub fn sized(words: &[u16], sets: &[u32], queues: &[u8]) -> bool
