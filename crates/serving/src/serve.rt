@@ -267,25 +267,6 @@ fn serve_none(program: &[u8], watching: bool, lines: &mut [u8], kept: usize)
     write_lines(program, lines, end, 1);
 }
 
-// Reads record 1: eight bytes, or those that are left where the input ends. That it cannot be read is said. Returns how many bytes there are.
-fn read_first(program: &[u8], bytes: &mut [u8]) -> usize
-    requires { ⌜ length (now bytes) ≡ 8 ⌝ }
-    ensures { λ n. ⌜ n ≤ 8 ⌝ }
-{
-    let mut filled = 0;
-    while filled < 8 {
-        let reading = streams::read_more(bytes, filled);
-        let Reading::Filled(n) = reading else {
-            if let Reading::Failed = reading {
-                streams::unread(program, 0);
-            }
-            return filled;
-        };
-        filled = n;
-    }
-    filled
-}
-
 // The part that powers up, and whether record 1 asked for it.
 struct Opening {
     part: Part,
@@ -306,7 +287,7 @@ fn opens_with(named: Named) -> Opening {
 fn start(program: &[u8], watching: bool, input: &mut [u8], lines: &mut [u8])
     requires { ⌜ (8 ≤ length (now input)) × (length (now input) ≤ 8192) × (roomFor watching (length (now input) / 8) ≤ length (now lines)) × (length (now lines) ≤ 0x100000) ⌝ }
 {
-    let filled = read_first(program, &mut input[..8]);
+    let filled = streams::read_record(program, &mut input[..8], 1);
     if filled < 8 {
         serve_none(program, watching, lines, filled);
         return;

@@ -4,6 +4,7 @@ mod wait; // wait.rt: a pause, and the failures that are none
 mod input; // input.rt: reading
 mod output; // output.rt: writing
 mod errors; // errors.rt: what is said on standard error
+mod record; // record.rt: a record of eight bytes
 
 pub use errors::misused;
 pub use errors::unread;
@@ -11,3 +12,4 @@ pub use errors::unwritten;
 pub use input::Reading;
 pub use input::read_more;
 pub use output::write_out;
+pub use record::read_record;

@@ -4,7 +4,6 @@ use lines::Counter;
 use state::Answer;
 use state::Named;
 use state::Part;
-use streams::Reading;
 ghost use mathlib.Core.Path.{_≡_};
 ghost use Prim.Native.Nat.{ℕ, _≤_};
 ghost use lib.ListN.{length, take};
@@ -17,25 +16,6 @@ ghost use Rattle.state.specs.View.{viewOf};
 ghost use Rattle.turns.specs.Turns.{HeldOf, TurnsOf};
 ghost use Rattle.turns.specs.Served.{asked, ServedOf};
 ghost use Rattle.strip_serving.specs.First.{answersOn, startsAs, AskedBy, Opens};
-
-// Reads a record: eight bytes, or those that are left where the input ends. That it cannot be read is said. Returns how many bytes there are.
-fn read_record(program: &[u8], bytes: &mut [u8], number: u64) -> usize
-    requires { ⌜ (length (now bytes) ≡ 8) × (1 ≤ number) ⌝ }
-    ensures { λ n. ⌜ n ≤ 8 ⌝ }
-{
-    let mut filled = 0;
-    while filled < 8 {
-        let reading = streams::read_more(bytes, filled);
-        let Reading::Filled(n) = reading else {
-            if let Reading::Failed = reading {
-                streams::unread(program, number - 1);
-            }
-            return filled;
-        };
-        filled = n;
-    }
-    filled
-}
 
 // The answer to a record. One that asked for the part, as record 1, is done: `started` tells that its part has powered up.
 fn turn(
@@ -180,14 +160,14 @@ fn serve_from(
         }
         started = false;
         counter = lines::next(counter);
-        filled = read_record(program, bytes, counter.number);
+        filled = streams::read_record(program, bytes, counter.number);
     }
 }
 
 // The bench of strips to the end of the input; `program` is the name that it has on standard error. Record 1 is read before the chip powers up, for it may ask for the part.
 pub fn run(program: &[u8]) {
     let mut bytes = [0; 8];
-    let filled = read_record(program, &mut bytes, 1);
+    let filled = streams::read_record(program, &mut bytes, 1);
     let opening = opens_with(&bytes[..filled]);
     let part = opening.part;
     let asked = opening.asked;

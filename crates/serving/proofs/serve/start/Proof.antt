@@ -15,7 +15,7 @@ eight l h = length-take-le 8 l h
 
 -- the buffer with record 1 in it
 abbrev buffer : tie.After-part-asked-arg → List ℕ
-buffer c = c .before .before .before .before .read-first .last .1 .0 ++ drop 8 (c .before .before .before .before .before .before .before .before .before .args .input .now)
+buffer c = c .before .before .before .before .read-record .last .1 .0 ++ drop 8 (c .before .before .before .before .before .before .before .before .before .args .input .now)
 
 pub start-spec : {M : Type 1} → statement M
 start-spec =
@@ -23,7 +23,7 @@ start-spec =
     (tie.spec
     (λ c. search needs)
     (λ c. let s = c .before .before .before .before in sym (eight (s .args .input .now) (s .pre .0)))
-    (λ c κs. let s = c .before .before .before .before in eight (s .args .input .now) (s .pre .0))
+    (λ c κs. let s = c .before .before .before .before in (eight (s .args .input .now) (s .pre .0), omega arith))
     (λ c κs. let s = c .before .before .before .before .before .before .before .before .before in (room-within (s .args .watching) {n = length (s .args .input .now) / 8} (omega (arith, s .pre .0)) (s .pre .2), s .pre .3))
     (λ c. search needs)
     (λ c. search needs)

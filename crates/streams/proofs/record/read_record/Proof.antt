@@ -4,8 +4,8 @@ use mathlib.Core.Path.{_≡_, _∙_}
 use Prim.Native.Nat.{_-_, _≤_, _<_}
 use native.Mathlib.Omega.{arith}
 use lib.ListN.{length}
-use Rattle.strip_serving.proofs.serve.read_record.Statement.{statement}
-use Rattle.strip_serving.proofs.serve.read_record.Tie as tie
+use Rattle.streams.proofs.record.read_record.Statement.{statement}
+use Rattle.streams.proofs.record.read_record.Tie as tie
 
 abbrev Inv-loop : tie.InvT-loop
 Inv-loop program bytes₀ number filled₀ bytes filled = (filled ≤ 8) × (length bytes ≡ 8)
