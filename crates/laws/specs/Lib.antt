@@ -28,8 +28,9 @@ pub mod Theorems
 pub mod Restarts
 -- An allocation that waits: granted in the very step that leaves enough pages free, never waiting in vain, and ended by nothing but a grant, a new request or a reset.
 pub mod Waiting
--- A packet's bytes one by one, after bytes were put into it.
+-- A packet's bytes one by one, after bytes were put into it; and which inputs read them into their value.
 pub mod Placed
+pub mod DataReads
 -- The link: the two values that show it, who changes it, and that loading, frames and sends are as before, whatever it is.
 pub mod LinkApart
 pub mod LinkReads

@@ -16,7 +16,7 @@ use Rattle.rules.specs.Registers.{Lanes, low, high, both, Register, TCR, EPHSR,
 use Rattle.rules.specs.Step.{driver}
 use Rattle.wellformed.specs.Keeps.{decode-valid}
 use Rattle.strip_laws.specs.Written.{Marks, marked, meant, writeMarks, accessMarks}
-use Rattle.strip_laws.specs.Strips.{dataIn, dataRead}
+use Rattle.laws.specs.DataReads.{dataIn, dataRead}
 use Rattle.strip_laws.specs.Packets.{emptied-in-both}
 use Rattle.strip_laws.specs.Beside.{on, Follows, stays, Effects, pick-both, as-many-packets, as-many-free, Beside, both-good}
 use Rattle.strip_laws.specs.BesideCommands.{as-is, both-did, same-perform}

@@ -7,9 +7,9 @@ use lib.ListN.{length}
 use Rattle.rules.specs.Chip.{Chip, pagesAt, allocated}
 use Rattle.rules.specs.Answers.{Reply}
 use Rattle.rules.specs.Data.{address}
-use Rattle.rules.specs.Registers.{Register, TCR, EPHSR, RCR, ECR, MIR, RESERVED, STATION, CONTROL, COMMAND, PACKET, HEADS, POINTER, DATA, INTERRUPT, TABLE, BANK, UNUSED, ABSENT, width, registerAt, lanesAt, read, write}
-use Rattle.rules.specs.Step.{Input, driver, frame, sent, link, stepOf}
+use Rattle.rules.specs.Step.{Input, stepOf}
 use Rattle.laws.specs.Head.{byteAt}
+use Rattle.laws.specs.DataReads.{dataRead}
 use Rattle.strip_laws.specs.Written.{Marks, meant, written}
 
 -- The two chips c (of pages) and d (of strips): "the same .. queues and registers", each packet has as many pages, "and the two agree on every byte so written".
@@ -20,35 +20,6 @@ pub record Agree (m : Marks) (c d : Chip) : Type 0 where
   pub completion : d .pool .completion ≡ c .pool .completion
   pub counts : (k : ℕ) → length (pagesAt d k) ≡ length (pagesAt c k)
   pub bytes : (k a : ℕ) → allocated k c ≡ true → m k a ≡ true → byteAt (pagesAt d k) (d .memory) a ≡ byteAt (pagesAt c k) (c .memory) a
-
--- how many bytes of data a read of this register gives
-abbrev pub dataIn : Register → ℕ → ℕ
-dataIn TCR w = 0
-dataIn EPHSR w = 0
-dataIn RCR w = 0
-dataIn ECR w = 0
-dataIn MIR w = 0
-dataIn RESERVED w = 0
-dataIn (STATION k) w = 0
-dataIn CONTROL w = 0
-dataIn COMMAND w = 0
-dataIn PACKET w = 0
-dataIn HEADS w = 0
-dataIn POINTER w = 0
-dataIn DATA w = w
-dataIn INTERRUPT w = 0
-dataIn (TABLE k) w = 0
-dataIn BANK w = 0
-dataIn UNUSED w = 0
-dataIn ABSENT w = 0
-
--- how many bytes of a packet an input reads into its value: the width of a data read, and of any other input none
-abbrev pub dataRead : Input → Chip → ℕ
-dataRead (driver (read w offset)) c = dataIn (registerAt (c .regs .numbers .bank) offset) (width (lanesAt w offset))
-dataRead (driver (write w offset v)) c = 0
-dataRead (frame f) c = 0
-dataRead (sent s out) c = 0
-dataRead (link x) c = 0
 
 -- is the j-th byte that a data read gives written
 abbrev pub WrittenAt : Chip → Marks → ℕ → Type 0
