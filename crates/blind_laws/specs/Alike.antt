@@ -15,7 +15,7 @@ use Rattle.rules.specs.Step.{Input, driver, frame, sent, link, lent, stepOf, ru
 use Rattle.laws.specs.Head.{byteAt, headPages, headCount, headControl}
 use Rattle.laws.specs.Sendable.{Reaches}
 use Rattle.laws.specs.Fcs.{bytesOut}
-use Rattle.laws.specs.DataReads.{dataRead}
+use Rattle.laws.specs.DataAccesses.{dataRead}
 
 -- frames "of equal lengths", equal in their first six bytes, "with equal CRC verdicts" and equal alignment flags; from byte 6 on they may differ
 pub record FrameAlike (f g : Frame) : Type 0 where

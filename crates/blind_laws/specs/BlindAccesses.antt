@@ -17,7 +17,7 @@ use Rattle.rules.specs.Link.{plug}
 use Rattle.rules.specs.Registers.{Lanes, low, high, both, Register, TCR, EPHSR, RCR, ECR, MIR, RESERVED, STATION, CONTROL, COMMAND, PACKET, HEADS, POINTER, DATA, INTERRUPT, TABLE, BANK, UNUSED, ABSENT, width, bytesOf, newRcr, merged, writeRcr, writeTcr, writeInterrupt, lowOnly, readRegister, writeRegister, registerAt, misplaced, lanesAt, Access, read, write, access}
 use Rattle.rules.specs.Step.{driver}
 use Rattle.lists.specs.Bytes.{length-put}
-use Rattle.laws.specs.DataReads.{dataIn, dataRead}
+use Rattle.laws.specs.DataAccesses.{dataIn, dataRead}
 use Rattle.laws.specs.LinkSteps.{pick-alike}
 use Rattle.blind_laws.specs.Alike.{ButBytes}
 

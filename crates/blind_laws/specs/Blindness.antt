@@ -10,7 +10,7 @@ use Rattle.rules.specs.Interrupts.{status, lineUp}
 use Rattle.rules.specs.Answers.{Reply, Effect, Turn, refused, leaving}
 use Rattle.rules.specs.Tests.{formed, fit}
 use Rattle.rules.specs.Step.{Input, driver, frame, sent, link, lent, serve, stepOf, runOf}
-use Rattle.laws.specs.DataReads.{dataRead}
+use Rattle.laws.specs.DataAccesses.{dataRead}
 use Rattle.laws.specs.LinkSteps.{pick-alike}
 use Rattle.blind_laws.specs.Alike.{InputAlike, accessed, linked, finished, arrived, InputsAlike, none, next, SendAlike, SendsAlike, ButBytes, TurnsAlike, RunsAlike, StepsAlike}
 use Rattle.blind_laws.specs.BlindAccesses.{holding, is-holding, Effects, same-access, same-plug}

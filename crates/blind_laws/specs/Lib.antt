@@ -7,3 +7,7 @@ pub mod BlindFrames
 pub mod BlindSends
 -- The promise, of every step and of runs from power-up on.
 pub mod Blindness
+-- A premise of one run alone: no send looks at a byte that came from a frame's payload.
+pub mod Puts
+pub mod Private
+pub mod PrivateKept

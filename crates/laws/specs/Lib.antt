@@ -30,7 +30,7 @@ pub mod Restarts
 pub mod Waiting
 -- A packet's bytes one by one, after bytes were put into it; and which inputs read them into their value.
 pub mod Placed
-pub mod DataReads
+pub mod DataAccesses
 -- The link: the two values that show it, who changes it, and that loading, frames and sends are as before, whatever it is.
 pub mod LinkApart
 pub mod LinkReads

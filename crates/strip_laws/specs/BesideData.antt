@@ -16,7 +16,8 @@ use Rattle.rules.specs.Data.{rcv, address, against, oddFixed, past, ifPacket, i
 use Rattle.rules.specs.Registers.{Lanes, low, high, both, width, bytesOf, headOf}
 use Rattle.lists.specs.Each.{Each}
 use Rattle.laws.specs.Head.{byteAt}
-use Rattle.strip_laws.specs.Written.{Marks, marked, meant}
+use Rattle.laws.specs.DataAccesses.{meant}
+use Rattle.strip_laws.specs.Written.{Marks, marked}
 use Rattle.strip_laws.specs.Strips.{WrittenAt}
 use Rattle.laws.specs.Placed.{Octets, get-alike}
 use Rattle.strip_laws.specs.Beside.{on, stays, Answers, Effects, pick-both, unless-both, Beside, puts-alike}

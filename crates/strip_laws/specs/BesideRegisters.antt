@@ -15,8 +15,8 @@ use Rattle.rules.specs.Data.{address, writeData}
 use Rattle.rules.specs.Registers.{Lanes, low, high, both, Register, TCR, EPHSR, RCR, ECR, MIR, RESERVED, STATION, CONTROL, COMMAND, PACKET, HEADS, POINTER, DATA, INTERRUPT, TABLE, BANK, UNUSED, ABSENT, width, bytesOf, newRcr, writeRcr, writeInterrupt, lowOnly, readRegister, writeRegister, registerAt, misplaced, lanesAt, Access, read, write, access}
 use Rattle.rules.specs.Step.{driver}
 use Rattle.wellformed.specs.Keeps.{decode-valid}
-use Rattle.strip_laws.specs.Written.{Marks, marked, meant, writeMarks, accessMarks}
-use Rattle.laws.specs.DataReads.{dataIn, dataRead}
+use Rattle.strip_laws.specs.Written.{Marks, marked, writeMarks, accessMarks}
+use Rattle.laws.specs.DataAccesses.{meant, dataIn, dataRead}
 use Rattle.strip_laws.specs.Packets.{emptied-in-both}
 use Rattle.strip_laws.specs.Beside.{on, Follows, stays, Effects, pick-both, as-many-packets, as-many-free, Beside, both-good}
 use Rattle.strip_laws.specs.BesideCommands.{as-is, both-did, same-perform}

@@ -9,8 +9,8 @@ use Rattle.rules.specs.Answers.{Reply}
 use Rattle.rules.specs.Data.{address}
 use Rattle.rules.specs.Step.{Input, stepOf}
 use Rattle.laws.specs.Head.{byteAt}
-use Rattle.laws.specs.DataReads.{dataRead}
-use Rattle.strip_laws.specs.Written.{Marks, meant, written}
+use Rattle.laws.specs.DataAccesses.{meant, dataRead}
+use Rattle.strip_laws.specs.Written.{Marks, written}
 
 -- The two chips c (of pages) and d (of strips): "the same .. queues and registers", each packet has as many pages, "and the two agree on every byte so written".
 pub record Agree (m : Marks) (c d : Chip) : Type 0 where

@@ -9,7 +9,7 @@ use Rattle.rules.specs.Chip.{Layout, paged, strips, Chip, pageNumbers, pagesAt,
 use Rattle.rules.specs.Step.{Input, driver, frame, sent, link, serve, stepOf, runOf}
 use Rattle.wellformed.specs.Fit.{Fits, step-fit}
 use Rattle.wellformed.specs.Keeps.{keeps, powered-fits}
-use Rattle.laws.specs.DataReads.{dataRead}
+use Rattle.laws.specs.DataAccesses.{dataRead}
 use Rattle.laws.specs.Head.{byteAt}
 use Rattle.strip_laws.specs.Written.{Marks, unwritten, inputMarks, written, writtenBy, Minds, OnlyWritten}
 use Rattle.strip_laws.specs.Strips.{Agree, StepAlike, Alike}

@@ -9,7 +9,7 @@ use Rattle.rules.specs.Bits.{lowByte}
 use Rattle.rules.specs.Chip.{Chip, free}
 use Rattle.rules.specs.Answers.{Turn}
 use Rattle.rules.specs.Mmu.{Command, nothing, allocate, reset, removeRx, removeAndRelease, release, enqueue, resetTx, unknown, decode, lowestNumber, due, freed}
-use Rattle.rules.specs.Data.{rcv, address}
+use Rattle.rules.specs.Data.{address}
 use Rattle.rules.specs.Registers.{Register, TCR, EPHSR, RCR, ECR, MIR, RESERVED, STATION, CONTROL, COMMAND, PACKET, HEADS, POINTER, DATA, INTERRUPT, TABLE, BANK, UNUSED, ABSENT, Lanes, width, headOf, registerAt, lanesAt, Access, read, write}
 use Rattle.rules.specs.Receive.{Frame, Arrival, stored, disabled, notAccepted, tooLong, bad, noRoom, dataLength, countOf, verdict}
 use Rattle.rules.specs.Send.{Send, sendLength, good, autoRelease}
@@ -17,6 +17,7 @@ use Rattle.rules.specs.Step.{Input, driver, frame, sent, link, stepOf}
 use Rattle.lists.specs.Each.{Each}
 use Rattle.laws.specs.Head.{headCount, headControl}
 use Rattle.laws.specs.Sendable.{Reaches}
+use Rattle.laws.specs.DataAccesses.{meant}
 
 -- is the byte of this packet at this address written
 abbrev pub Marks : Type 0
@@ -33,10 +34,6 @@ marked k a w m j b = m j b || (eqb j k && leb a b && ltb b (a + w))
 -- packet k "starts anew"
 unfoldable pub anew : ℕ → Marks → Marks
 anew k m j b = m j b && not (eqb j k)
-
--- the packet that a data access means
-abbrev pub meant : Chip → ℕ
-meant c = cond (rcv (c .regs .pointer)) (headOf (c .pool .rx)) (c .regs .numbers .packet)
 
 -- "at each grant": where an allocation waits for as many pages as are free, its packet starts anew
 abbrev pub settledMarks : Chip → Marks → Marks

@@ -1,10 +1,16 @@
--- How many bytes of packets an input reads into its value: what a promise has to leave out where two chips hold other bytes (document 02, W3 and W10).
+-- Data accesses, as the promises of document 02's W3 and W10 speak of them: which packet one means, and how many of its bytes an input reads into its value, which may be others on another chip.
+use mathlib.Core.Bool.{cond}
 use Prim.Native.Nat.{ℕ}
 use Rattle.rules.specs.Chip.{Chip}
-use Rattle.rules.specs.Registers.{Register, TCR, EPHSR, RCR, ECR, MIR, RESERVED, STATION, CONTROL, COMMAND, PACKET, HEADS, POINTER, DATA, INTERRUPT, TABLE, BANK, UNUSED, ABSENT, width, registerAt, lanesAt, read, write}
+use Rattle.rules.specs.Data.{rcv}
+use Rattle.rules.specs.Registers.{Register, TCR, EPHSR, RCR, ECR, MIR, RESERVED, STATION, CONTROL, COMMAND, PACKET, HEADS, POINTER, DATA, INTERRUPT, TABLE, BANK, UNUSED, ABSENT, width, headOf, registerAt, lanesAt, read, write}
 use Rattle.rules.specs.Step.{Input, driver, frame, sent, link}
 
--- how many bytes of data a read of this register gives
+-- the packet that a data access means
+abbrev pub meant : Chip → ℕ
+meant c = cond (rcv (c .regs .pointer)) (headOf (c .pool .rx)) (c .regs .numbers .packet)
+
+-- how many bytes of data an access of w bytes to this register moves
 abbrev pub dataIn : Register → ℕ → ℕ
 dataIn TCR w = 0
 dataIn EPHSR w = 0
