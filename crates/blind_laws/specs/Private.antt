@@ -55,6 +55,11 @@ hiddenBy (link x) c = []
 unfoldable pub privateAfter : ℕ → Input → Chip → Private → Private
 privateAfter n i c p = cond (eqb (stepOf n i c .reply .number) 0) (notedAll (hiddenBy i c) (putBy i c .at) (putBy i c .pages) p) p
 
+-- and after inputs, one after another
+abbrev pub privateBy : ℕ → List Input → Chip → Private → Private
+privateBy n [] c p = p
+privateBy n (i ∷ is) c p = privateBy n is (stepOf n i c .chip) (privateAfter n i c p)
+
 -- of the TX head bytes 2 to 9 are not private, and its control byte is not where the count is usable
 pub record HeadOpen (c : Chip) (p : Private) : Type 0 where
   pub bytes : (a : ℕ) → 2 ≤ a → a ≤ 9 → p (place (headPages c) a) ≡ false

@@ -1,4 +1,4 @@
--- Two runs alike agree in every byte of memory that is not private; so, where no send looks at a private byte, they end alike.
+-- Two runs alike agree in every byte of memory that is not private; so they agree in what each send looks at, where that is none.
 use mathlib.Core.Path.{_≡_, refl, ap, sym, subst, _∙_}
 use mathlib.Core.Bool.{Bool, true, false, cond, not, true≢false}
 use mathlib.Core.List.{List, [], _∷_, _++_}
@@ -30,7 +30,7 @@ use Rattle.blind_laws.specs.BlindAccesses.{holding, is-holding}
 use Rattle.blind_laws.specs.BlindFrames.{same-judge, same-status}
 use Rattle.blind_laws.specs.Puts.{putInto, framePut, statusPut, putBy, memoryBy, memory-after}
 use Rattle.blind_laws.specs.Private.{Private, nonePrivate, noted, notedAll, hidden, hiddenIn, hiddenBy, privateAfter, HeadOpen, SendOpen, SendsOpen}
-use Rattle.blind_laws.specs.Blindness.{same-step, blind}
+use Rattle.blind_laws.specs.Blindness.{same-step}
 
 -- two memories that agree in every byte that is not private
 pub record Known (p : Private) (m others : List ℕ) : Type 0 where
@@ -185,6 +185,6 @@ sends-alike n (next {i} {j} {is} {js} a more) {p} {c} {d} b k o =
     subst (λ (x : Chip). SendAlike i c x × SendsAlike n is js (stepOf n i c .chip) (stepOf n j x .chip)) (sym (is-holding b))
     (h, sends-alike n more (t .after) (step-known n c (d .memory) k a h (t .number)) (o .1))
 
--- and two runs from power-up end alike, where of one of them it is known that no send looks at a private byte.
-pub blind-by-one : (n : ℕ) (l : Layout) {is js : List Input} → InputsAlike is js → SendsOpen n is (powered l n) nonePrivate → RunsAlike n is js (powered l n) (powered l n)
-blind-by-one n l a o = blind n l a (sends-alike n a (record { registers = refl; pool = refl; asLong = refl }) (record { asLong = refl; same = λ x e. refl }) o)
+-- and so of two runs from power-up, where of one of them it is known that no send looks at a private byte.
+pub open-alike : (n : ℕ) (l : Layout) {is js : List Input} → InputsAlike is js → SendsOpen n is (powered l n) nonePrivate → SendsAlike n is js (powered l n) (powered l n)
+open-alike n l a o = sends-alike n a (record { registers = refl; pool = refl; asLong = refl }) (record { asLong = refl; same = λ x e. refl }) o

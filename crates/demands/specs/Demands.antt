@@ -1,4 +1,4 @@
--- The client's three demands, and what document 02's W3 promises of strips, W4 of the frame check sequence, W8 of the link and W9 of its two parts, a record for each, of the rules and of the code; each is proved by citing what leads to it.
+-- The client's three demands, and what document 02's W3 promises of strips, W4 of the frame check sequence, W8 of the link, W9 of its two parts and W10 of private contents, a record for each, of the rules and of the code; each is proved by citing what leads to it.
 -- n is how many packets a part has, and how many pages: "Demand 2 reads 18 for 24 on this part, and so does 01 wherever it counts packets or pages" (W9). All is proved once over n, and `Lan91c96` and `Lan91c94` cite it with 24 and 18.
 -- Of the rules: `stepOf n` and `runOf n` (rules/specs/Step) on any chip; `powered l n` is power-up, of document 01's chip where the layout l is `paged`. Of the code: `Serves l i b x`, what the public
 -- entries `access`, `frame`, `send` and `link` promise of the input i on any board b (registers, page sets or counts and queues by value, and the memory lent), `chip`'s with l = `paged` and `strip_chip`'s with l = `strips`;
@@ -34,11 +34,16 @@ use Rattle.laws.specs.Loads.{Loads}
 use Rattle.laws.specs.Merge.{Merge, Alike, any-two}
 use Rattle.strip_laws.specs.Written.{unwritten, OnlyWritten}
 use Rattle.strip_laws.specs.StripsAlike.{StripsBeside, strips-beside}
+use Rattle.blind_laws.specs.Alike.{InputsAlike, SendsAlike, RunsAlike}
+use Rattle.blind_laws.specs.Blindness.{blind}
+use Rattle.blind_laws.specs.Private.{nonePrivate, SendsOpen}
+use Rattle.blind_laws.specs.PrivateKept.{open-alike}
 use Rattle.laws.specs.Theorems.{Whole, power-up-whole, step-whole, pages-accounted, since-power-up, since-reset}
 use Rattle.demands.specs.Boards.{Board, partIn, Left, replyTo, boardAfter, chipOf, ReadyBy, Good, GoodOf, Serves, Starts, Shows, Runs, Refused16, AsRules, good-part, good-size, serves-right, serves-refused, serves-once}
 use Rattle.demands.specs.OfCode.{good-whole, serves-numbers, serves-leaves, serves-values, serves-sixteen, serves-no17, serves-part, serves-earlier, serves-counts, serves-pages, starts-up, BalancesOn, runs-balanced, runs-balanced-since, serves-good-crc, AlikeOn, any-two-on}
 use Rattle.demands.specs.BesideCode.{BesideOn, runs-beside}
 use Rattle.demands.specs.LinkOfCode.{AnsweredAlike, turnOf, serves-alone, serves-apart, frame-places, send-places}
+use Rattle.demands.specs.BlindCode.{BoardsAlike, AllLeftAlike, runs-blind}
 
 -- Demand 1. "Every access, arriving frame and send gets an answer, whatever numbers and bytes come in. What the sheet forbids or the model lacks is refused by a number of document 01; a refusal changes no
 -- register, no packet byte and nothing in the output buffer." (`stepOf n` is a function on every input and chip, and the public entries ask nothing of what they are given: each call has a result.)
@@ -148,6 +153,16 @@ pub record TwoParts : Type 0 where
   pub codeNeither : (l : Layout) (i : Input) (b : Board) (x : Left) → (IsPart (partIn b) → ⊥) → Serves l i b x → Refused16 l i b x
   pub codeStays : (l : Layout) (i : Input) (b : Board) (x : Left) → Serves l i b x → partIn (x .board) ≡ partIn b
 
+-- Document 02, W10. "two runs from power-up with the same accesses and events, except that arriving frames, of equal lengths, differ from byte 6 on, with equal CRC verdicts. At each send let the packet's bytes 2 to 9 and its control byte agree
+-- in the two runs. Then every answer agrees but the value of data reads and the bytes put out; so do registers, queues, page numbers and the line." (`blind_laws/specs/Alike` has each word of it.)
+pub record PayloadBlind (n : ℕ) : Type 0 where
+  pub blind : (l : Layout) (is js : List Input) → InputsAlike is js → SendsAlike n is js (powered l n) (powered l n) → RunsAlike n is js (powered l n) (powered l n)
+  -- what is asked of sends is known from one run alone: no send looks at a byte that a frame left from its byte 6 on, and that nothing was put over since
+  pub known : (l : Layout) (is js : List Input) → InputsAlike is js → SendsOpen n is (powered l n) nonePrivate → SendsAlike n is js (powered l n) (powered l n)
+  -- Of the code, on both chips: each call of two runs, and the boards at the end.
+  pub codeBlind : (l : Layout) (is js : List Input) → InputsAlike is js → SendsAlike n is js (powered l n) (powered l n) → (u v : Left) → Starts l n u → Starts l n v
+      → (xs ys : List Left) → Runs l is (u .board) xs → Runs l js (v .board) ys → AllLeftAlike l is (u .board) xs ys × BoardsAlike l (boardAfter (u .board) xs) (boardAfter (v .board) ys)
+
 pub demand1 : {n : ℕ} → IsPart n → Demand1 n
 demand1 {n} part = record {
   numbers = numbers-given n;
@@ -205,6 +220,9 @@ whatever-link {n} part = record {
   codeFramePlaces = frame-places;
   codeSendPlaces = send-places;
 }
+
+pub payload-blind : {n : ℕ} → IsPart n → PayloadBlind n
+payload-blind {n} part = record { blind = λ l is js. blind n l; known = λ l is js. open-alike n l; codeBlind = λ l is js. runs-blind l n }
 
 pub two-parts : TwoParts
 two-parts = record {

@@ -2,7 +2,7 @@
 use mathlib.Core.Path.{refl}
 use mathlib.Core.Logic.{inr}
 use Rattle.rules.specs.Parts.{lan91c96, IsPart}
-use Rattle.demands.specs.Demands.{Demand1, Demand2, Demand3, BesidePages, FrameCheck, WhateverLink}
+use Rattle.demands.specs.Demands.{Demand1, Demand2, Demand3, BesidePages, FrameCheck, WhateverLink, PayloadBlind}
 use Rattle.demands.specs.Demands as proved
 
 part : IsPart lan91c96
@@ -25,3 +25,6 @@ frame-check = proved.frame-check part
 
 pub whatever-link : WhateverLink lan91c96
 whatever-link = proved.whatever-link part
+
+pub payload-blind : PayloadBlind lan91c96
+payload-blind = proved.payload-blind part

@@ -4,6 +4,7 @@ pub mod Entries
 pub mod OfCode
 pub mod BesideCode
 pub mod LinkOfCode
+pub mod BlindCode
 pub mod Demands
 pub mod Lan91c96
 pub mod Lan91c94
