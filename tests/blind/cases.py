@@ -152,7 +152,7 @@ WRITES = [
     (1, record(4, 0xF, 0, 0) + record(3, 0x8, 1)),  # a word there gets 1
     (1, record(3, 0x1E, 0) + record(3, 0x8, 1)),
     (1, record(4, 0x4, 0, 0x80) + record(3, 0x8, 1)),  # no RCR in bank 2
-    (0, record(3, 0xE, 3) + record(3, 0x8, 1)),
+    (0, record(3, 0xE, 3) + record(3, 0x8, 1) + record(3, 0xE, 6) + record(3, 0x8, 1)),
     (1, record(4, 0xE, 0x0A, 0xFF) + record(3, 0x8, 1)),  # 10 modulo 8, and the high byte is skipped
     (0, record(3, 0xE, 0) + record(4, 0x4, 0, 0x80) + record(3, 0x8, 1)),  # a soft reset
     (1, record(3, 0xE, 2) + record(3, 0x8, 1)),
