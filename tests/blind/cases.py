@@ -3,7 +3,7 @@ import os
 import subprocess
 import tempfile
 
-from records import TOOL, blinded, bytes_of, checked, failed, frame, frames, is_right, record, same, tool, wire
+from records import TOOL, USED, blinded, bytes_of, checked, failed, frame, frames, is_right, record, same, tool, wire
 
 STATION = bytes.fromhex("020000123456")
 BLANK = bytes(6)
@@ -113,9 +113,8 @@ def frames_that_never_end():
 
 
 def unused_bytes():
-    """Of each kind but wire bytes how many it uses, and of those one."""
-    used = {1: 2, 2: 2, 3: 3, 4: 4, 6: 2, 7: 4, 8: 2, 9: 2}
-    for kind, count in used.items():
+    """Of each kind; of wire bytes with a count that is refused, and behind one."""
+    for kind, count in USED.items():
         full = bytes([kind]) + b"\xee" * 7
         same(f"kind {kind}: unused bytes", blinded(full)[0], full[:count] + bytes(8 - count))
     out, _ = blinded(bytes([5, 1]) + STATION + record(6))

@@ -9,6 +9,9 @@ TOP = os.path.dirname(os.path.dirname(os.path.dirname(os.path.abspath(__file__))
 TOOL = f"{TOP}/tools/blind"
 PATIENCE = 60  # seconds after which a program hangs
 
+# how many of its bytes a record uses, by its kind; of wire bytes, kind 5, their count is left whatever they are
+USED = {1: 2, 2: 2, 3: 3, 4: 4, 5: 2, 6: 2, 7: 4, 8: 2, 9: 2}
+
 # a frame that ends: where each of its bytes stands in the stream, and where the record of its end does
 Frame = namedtuple("Frame", "places end")
 
