@@ -1,4 +1,4 @@
-"""Blinders that do too much, and a send that no blinder may meet: the comparison notices each."""
+"""Blinders that do too much, and sends that go by private bytes: the comparison notices each."""
 import subprocess
 
 from lines import PROGRAMS, Note, compared, covered, lines_of
@@ -95,11 +95,12 @@ def reported(stream):
     return ran.returncode, ran.stdout.decode().splitlines()
 
 
-def uncovered(bench, name, number, line, places):
-    """A send with this record and this line of the bench, which is another one where the frame has other contents."""
+def uncovered(bench, name, number, shown, places):
+    """A send with this record, and a line of the bench, its own or a later one, which is another where the frame has other contents."""
     stream = typed(name)
     ones, before, behind = lines_of(bench, stream), stream[: 8 * (number - 1)], stream[8 * number :]
-    same(f"{name}: the send", ones[number - 1], line)
+    shown_at = int(shown.split()[0])
+    same(f"{name}: the line", ones[shown_at - 1], shown)
     same(f"{name}: the report", reported(stream), (1, [f"record {number}: the send of packet {places}"]))
     kept = covered(stream)
     same(f"{name}: without the send", kept.stream, before + behind)
@@ -109,15 +110,17 @@ def uncovered(bench, name, number, line, places):
     for seed in SEEDS:
         difference = first_difference(bench, stream, notes, seed)
         if difference:
-            same(f"{name}, seed {seed}: where it differs first", difference.number, number)
+            same(f"{name}, seed {seed}: where it differs first", difference.number, shown_at)
             answers.add(difference.other)
         same(f"{name}, seed {seed}: a difference without the send", first_difference(bench, kept.stream, kept.notes, seed), None)
     if not answers:
         failed(f"{name}: a send that goes by private bytes is not noticed")
-    print(f"blind: a send that goes by private bytes is noticed ({name}): '{line}' and, blinded, {', '.join(map(repr, sorted(answers)[:3]))}")
+    print(f"blind: a send that goes by private bytes is noticed ({name}): '{shown}' and, blinded, {', '.join(map(repr, sorted(answers)[:3]))}")
 
 
 def sends(bench):
     count_and_destination = "2 (byte count), 3 (byte count), " + ", ".join(f"{at} (destination)" for at in range(4, 10))
     uncovered(bench, "second-page", 55, "55 0 000a", f"1 goes by private bytes: {count_and_destination}, 11 (control byte)")
+    uncovered(bench, "count", 60, "60 0 000a", "1 goes by private bytes: 2 (byte count), 3 (byte count)")
+    uncovered(bench, "destination", 62, "64 0 0041", "1 goes by private bytes: 9 (destination)")
     uncovered(bench, "control-byte", 20, "20 0 0012", "0 goes by private bytes: 19 (control byte)")
