@@ -1,5 +1,7 @@
 //! "A frame arrives".
 
+use std::ops::Range;
+
 use crate::address::MacAddress;
 use crate::chip::{control, rcr, ChipOn};
 use crate::crc::{self, FCS_SIZE};
@@ -16,6 +18,9 @@ const LONG_ABOVE: usize = 1_518;
 const MOST: usize = 1_532;
 /// Status and byte count.
 const HEADER: usize = 4;
+/// The last byte behind a frame, "for even n a zero and 40h, for odd n 60h".
+const LAST_OF_EVEN: u8 = 0x40;
+const LAST_OF_ODD: u8 = 0x60;
 /// The longest header, frame and trailer.
 const LONGEST_IMAGE: usize = HEADER + MOST + 2;
 
@@ -167,10 +172,22 @@ impl<L: Layout> ChipOn<L> {
         image[0..2].copy_from_slice(&frame_status(frame, n).to_le_bytes());
         image[2..4].copy_from_slice(&(count as u16).to_le_bytes());
         image[HEADER..HEADER + n].copy_from_slice(&frame.bytes[..n]);
-        image[count - 1] = if n.is_multiple_of(2) { 0x40 } else { 0x60 };
+        image[count - 1] = match n % 2 {
+            0 => LAST_OF_EVEN,
+            _ => LAST_OF_ODD,
+        };
         self.packets.fill(packet, &image[..count]);
         self.rx.push(packet);
     }
+}
+
+/// Where the n bytes stand in a frame as it is stored.
+pub fn bytes_in(image: &[u8]) -> Range<usize> {
+    let behind = match image.last() {
+        Some(&LAST_OF_ODD) => 1,
+        _ => 2,
+    };
+    HEADER..image.len() - behind
 }
 
 /// "Status: 15 alignment, 14 broadcast, 13 bad CRC, 12 odd n, 11 frame with FCS

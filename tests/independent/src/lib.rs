@@ -16,6 +16,7 @@ pub mod memory;
 pub mod mmu;
 pub mod part;
 pub mod places;
+pub mod private;
 pub mod random;
 pub mod reads;
 pub mod refusal;

@@ -4,12 +4,14 @@
 
 mod marked;
 mod paged;
+mod private;
 mod strips;
 
 use std::fmt::Debug;
 
 pub use marked::Marked;
 pub use paged::{PageNumber, Paged};
+pub use private::Private;
 pub use strips::{Strips, STRIP_SIZE};
 
 use crate::part::Part;

@@ -5,6 +5,7 @@ mod crc;
 mod fcs;
 mod link;
 mod part;
+mod private;
 mod streams;
 mod strips;
 mod waiting;
