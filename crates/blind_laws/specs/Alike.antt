@@ -3,7 +3,7 @@ use mathlib.Core.Path.{_≡_}
 use mathlib.Core.Bool.{false}
 use mathlib.Core.List.{List, [], _∷_}
 use Prim.Native.Nat.{ℕ, _*_, _≤_}
-use lib.ListN.{length, take, drop}
+use lib.ListN.{length, take}
 use Rattle.rules.specs.Bits.{bit}
 use Rattle.rules.specs.Chip.{Chip}
 use Rattle.rules.specs.Interrupts.{lineUp}
@@ -11,7 +11,7 @@ use Rattle.rules.specs.Registers.{Access}
 use Rattle.rules.specs.Receive.{Frame, badCrc}
 use Rattle.rules.specs.Send.{Send}
 use Rattle.rules.specs.Answers.{Turn}
-use Rattle.rules.specs.Step.{Input, driver, frame, sent, link, lent, stepOf, runOf}
+use Rattle.rules.specs.Step.{Input, driver, frame, sent, link, stepOf, runOf}
 use Rattle.laws.specs.Head.{byteAt, headPages, headCount, headControl}
 use Rattle.laws.specs.Sendable.{Reaches}
 use Rattle.laws.specs.Fcs.{bytesOut}

@@ -1,20 +1,19 @@
 -- No register access but a data read looks at memory; what a data read does, but for its value, does not depend on it either. Accesses and link events on two chips that are equal but for the bytes of memory.
 use mathlib.Core.Path.{_≡_, refl, sym, subst, _∙_}
-use mathlib.Core.Bool.{Bool, true, false, cond, not}
+use mathlib.Core.Bool.{Bool, true, false, not}
 use mathlib.Core.List.{List, [], _∷_}
 use Prim.Native.Nat.{ℕ}
 use lib.Dec.{leb, ltb}
 use lib.ListN.{length}
 use Rattle.rules.specs.Bits.{bit, lowByte}
 use Rattle.rules.specs.Chip.{Registers, Pool, Chip, pagesAt, allocated, free}
-use Rattle.rules.specs.Fields.{inRegisters}
 use Rattle.rules.specs.Answers.{Reply, Effect, did}
 use Rattle.rules.specs.Mmu.{Command, nothing, allocate, reset, removeRx, removeAndRelease, release, enqueue, resetTx, unknown, decode, due, settle, queued, ifIdle, ifHead, perform}
 use Rattle.rules.specs.Interrupts.{status}
 use Rattle.rules.specs.Data.{rcv, address, against, oddFixed, past, ifPacket, ifOpen, valueOf, readData, writeData}
 use Rattle.rules.specs.Packet.{getBytes}
 use Rattle.rules.specs.Link.{plug}
-use Rattle.rules.specs.Registers.{Lanes, low, high, both, Register, TCR, EPHSR, RCR, ECR, MIR, RESERVED, STATION, CONTROL, COMMAND, PACKET, HEADS, POINTER, DATA, INTERRUPT, TABLE, BANK, UNUSED, ABSENT, width, bytesOf, newRcr, merged, writeRcr, writeTcr, writeInterrupt, lowOnly, readRegister, writeRegister, registerAt, misplaced, lanesAt, Access, read, write, access}
+use Rattle.rules.specs.Registers.{Lanes, low, high, both, Register, TCR, EPHSR, RCR, ECR, MIR, RESERVED, STATION, CONTROL, COMMAND, PACKET, HEADS, POINTER, DATA, INTERRUPT, TABLE, BANK, UNUSED, ABSENT, width, bytesOf, newRcr, writeRcr, writeInterrupt, lowOnly, readRegister, writeRegister, registerAt, misplaced, lanesAt, Access, read, write, access}
 use Rattle.rules.specs.Step.{driver}
 use Rattle.lists.specs.Bytes.{length-put}
 use Rattle.laws.specs.DataAccesses.{dataIn, dataRead}

@@ -3,27 +3,36 @@ use mathlib.Core.Path.{_≡_, refl, ap, sym, subst, _∙_}
 use mathlib.Core.List.{List, [], _∷_, _++_}
 use Prim.Native.Nat.{ℕ}
 use lib.Dec.{ltb}
-use lib.ListN.{length, take}
-use Rattle.rules.specs.Chip.{Registers, Pool, Chip, free}
+use lib.ListN.{length}
+use Rattle.rules.specs.Chip.{Registers, Chip, free}
 use Rattle.rules.specs.Fields.{setRx, inPool}
-use Rattle.rules.specs.Answers.{Effect, doneWith}
 use Rattle.rules.specs.Mmu.{lowestNumber, allot}
-use Rattle.rules.specs.Receive.{Frame, Arrival, stored, disabled, notAccepted, tooLong, bad, noRoom, accepted, dataLength, needed, valueFor, dropped, judge, frameStatus, image, after, verdict, arrive}
+use Rattle.rules.specs.Receive.{Frame, Arrival, destination, badCrc, stored, disabled, notAccepted, tooLong, bad, noRoom, needed, dropped, judge, frameStatus, after, verdict, arrive}
 use Rattle.lists.specs.Bytes.{length-put}
 use Rattle.laws.specs.LinkSteps.{pick-alike}
 use Rattle.blind_laws.specs.Alike.{FrameAlike, ButBytes}
 use Rattle.blind_laws.specs.BlindAccesses.{holding, is-holding, Effects}
 
 module _ {f g : Frame} (e : FrameAlike f g) where
+  -- What a frame is judged by: its address, its CRC, its flag, and its length.
+  same-address : destination g ≡ destination f
+  same-address = e .firstSix
+
+  same-crc : badCrc (g .bytes) ≡ badCrc (f .bytes)
+  same-crc = e .crc
+
+  same-flag : g .alignment ≡ f .alignment
+  same-flag = e .alignment
+
   -- "The answer's value is the first that holds": on any registers, with any number of pages free.
   pub same-judge : (r : Registers) (pages : ℕ) → judge r pages g ≡ judge r pages f
   unfolding judge dropped
-  same-judge r pages = rw (e .asLong, e .firstSix, e .crc, e .alignment)
+  same-judge r pages = rw (e .asLong, same-address, same-crc, same-flag)
 
   -- The status word that is stored.
   pub same-status : (n : ℕ) → frameStatus g n ≡ frameStatus f n
   unfolding frameStatus
-  same-status n = rw (e .asLong, e .firstSix, e .crc, e .alignment)
+  same-status n = rw (e .asLong, same-address, same-crc, same-flag)
 
   module _ (c : Chip) (bytes : List ℕ) (long : length bytes ≡ length (c .memory)) where
     abbrev other : Chip

@@ -2,23 +2,21 @@
 use mathlib.Core.Path.{_≡_, refl, ap, sym, subst, _∙_}
 use mathlib.Core.Bool.{Bool, true, false, cond, not}
 use mathlib.Core.List.{List, [], _∷_, _++_}
-use Prim.Native.Nat.{ℕ, _+_, _-_, _*_, _≤_, _<_}
+use Prim.Native.Nat.{ℕ, _+_, _-_, _*_, _≤_}
 use native.Mathlib.Omega.{arith}
 use borrow.Author.Tests.{ltb-false, not-false}
 use lib.Dec.{ltb}
 use lib.ListN.{length, getD, drop, replicate, length-append, length-drop}
 use Rattle.rules.specs.Bits.{bit, lowByte, highByte}
 use Rattle.rules.specs.Lists.{some?}
-use Rattle.rules.specs.Chip.{Registers, Pool, Chip, pagesAt}
-use Rattle.rules.specs.Fields.{setTx, inRegisters, inPool}
+use Rattle.rules.specs.Chip.{Registers, Pool, Chip}
+use Rattle.rules.specs.Fields.{setTx}
 use Rattle.rules.specs.Answers.{Turn, Reply, over}
-use Rattle.rules.specs.Packet.{place, getBytes, putBytes}
-use Rattle.rules.specs.Mmu.{settle}
+use Rattle.rules.specs.Packet.{getBytes, putBytes}
 use Rattle.rules.specs.Crc.{fcs, fourBytes}
 use Rattle.rules.specs.Send.{Send, inLimits, byteCount, sendLength, appends, padded, ended, onWire, controlByte, putOut, good, sentRegisters, autoRelease, retire, statusWord, statusWritten, noPlace, sendHead, ifUsable, ifSendable, byTxHead, finish}
-use Rattle.lists.specs.Facts.{head-and-rest}
 use Rattle.lists.specs.Bytes.{length-get, length-put}
-use Rattle.laws.specs.Head.{byteAt, headPages, headCount, headControl, count-is}
+use Rattle.laws.specs.Head.{headPages, headCount, count-is}
 use Rattle.laws.specs.Placed.{get-alike}
 use Rattle.laws.specs.PutOut.{control-is}
 use Rattle.laws.specs.Sendable.{Reaches, within-decides}

@@ -1,19 +1,18 @@
 -- Document 02, W10: every step of two runs, and so both runs; from power-up, of either layout and any number of packets. No chip need be well formed: 16 is given on both, or on neither.
 use mathlib.Core.Path.{_≡_, refl, ap, sym, subst}
 use mathlib.Core.Bool.{Bool, true, false, cond, not}
-use mathlib.Core.List.{List, [], _∷_}
-use Prim.Native.Nat.{ℕ, zero, min}
+use mathlib.Core.List.{List, []}
+use Prim.Native.Nat.{ℕ}
 use native.Mathlib.Omega.{arith}
-use lib.ListN.{length, take, length-take}
+use lib.ListN.{length, length-take}
 use Rattle.rules.specs.Chip.{Layout, Chip, powered}
 use Rattle.rules.specs.Interrupts.{status, lineUp}
 use Rattle.rules.specs.Answers.{Reply, Effect, Turn, refused, leaving}
 use Rattle.rules.specs.Tests.{formed, fit}
-use Rattle.rules.specs.Step.{Input, driver, frame, sent, link, lent, serve, stepOf, runOf}
+use Rattle.rules.specs.Step.{Input, driver, frame, link, lent, serve, stepOf, runOf}
 use Rattle.laws.specs.DataAccesses.{dataRead}
-use Rattle.laws.specs.LinkSteps.{pick-alike}
 use Rattle.blind_laws.specs.Alike.{InputAlike, accessed, linked, finished, arrived, InputsAlike, none, next, SendAlike, SendsAlike, ButBytes, TurnsAlike, RunsAlike, StepsAlike}
-use Rattle.blind_laws.specs.BlindAccesses.{holding, is-holding, Effects, same-access, same-plug}
+use Rattle.blind_laws.specs.BlindAccesses.{is-holding, Effects, same-access, same-plug}
 use Rattle.blind_laws.specs.BlindFrames.{same-arrive}
 use Rattle.blind_laws.specs.BlindSends.{Sends, same-finish}
 

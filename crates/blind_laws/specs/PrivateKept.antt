@@ -2,7 +2,7 @@
 use mathlib.Core.Path.{_≡_, refl, ap, sym, subst, _∙_}
 use mathlib.Core.Bool.{Bool, true, false, cond, not, true≢false}
 use mathlib.Core.List.{List, [], _∷_, _++_}
-use Prim.Native.Nat.{ℕ, zero, suc, _+_, _-_, _≤_, _<_}
+use Prim.Native.Nat.{ℕ, zero, suc, _+_, _-_, _≤_}
 use native.Mathlib.Omega.{arith}
 use borrow.Author.Tests.{eqb-true, eqb-false, ltb-false}
 use lib.Dec.{eqb, ltb}
@@ -13,7 +13,7 @@ use Rattle.rules.specs.Chip.{Layout, Registers, Chip, pagesAt, free, powered}
 use Rattle.rules.specs.Answers.{Effect, Turn}
 use Rattle.rules.specs.Tests.{fit}
 use Rattle.rules.specs.Data.{address}
-use Rattle.rules.specs.Registers.{Access, read, write}
+use Rattle.rules.specs.Registers.{read, write}
 use Rattle.rules.specs.Packet.{place, putBytes}
 use Rattle.rules.specs.Receive.{Frame, Arrival, stored, disabled, notAccepted, tooLong, bad, noRoom, dataLength, image, trailer, verdict, arrive}
 use Rattle.rules.specs.Send.{Send}
@@ -22,13 +22,13 @@ use Rattle.wellformed.specs.Cases.{pick, pick-by}
 use Rattle.wellformed.specs.Frames.{data-short}
 use Rattle.laws.specs.Head.{byteAt, headPages, headCount}
 use Rattle.laws.specs.Placed.{get-alike}
-use Rattle.laws.specs.Sendable.{Reaches, done-sendable}
+use Rattle.laws.specs.Sendable.{done-sendable}
 use Rattle.laws.specs.PutOut.{step-done}
 use Rattle.laws.specs.DataAccesses.{meant}
-use Rattle.blind_laws.specs.Alike.{FrameAlike, InputAlike, accessed, linked, finished, arrived, InputsAlike, none, next, HeadAlike, SendAlike, SendsAlike, ButBytes, RunsAlike}
+use Rattle.blind_laws.specs.Alike.{FrameAlike, InputAlike, accessed, linked, finished, arrived, InputsAlike, none, next, HeadAlike, SendAlike, SendsAlike, ButBytes}
 use Rattle.blind_laws.specs.BlindAccesses.{holding, is-holding}
 use Rattle.blind_laws.specs.BlindFrames.{same-judge, same-status}
-use Rattle.blind_laws.specs.Puts.{putInto, framePut, statusPut, putBy, memoryBy, memory-after}
+use Rattle.blind_laws.specs.Puts.{putInto, framePut, statusPut, putBy, memory-after}
 use Rattle.blind_laws.specs.Private.{Private, nonePrivate, noted, notedAll, hidden, hiddenIn, hiddenBy, privateAfter, HeadOpen, SendOpen, SendsOpen}
 use Rattle.blind_laws.specs.Blindness.{same-step}
 

@@ -1,25 +1,25 @@
 -- What each input puts into memory: only a data write, a stored frame and the status word of a send change a byte of it. Of every chip, well formed or not.
-use mathlib.Core.Path.{_≡_, refl, ap, sym, subst, _∙_}
+use mathlib.Core.Path.{_≡_, refl, sym, subst, _∙_}
 use mathlib.Core.Bool.{Bool, true, false, cond, not}
 use mathlib.Core.List.{List, [], _∷_}
 use Prim.Native.Nat.{ℕ}
 use lib.Dec.{eqb, leb, ltb}
-use lib.ListN.{length, getD, take}
+use lib.ListN.{length, take}
 use Rattle.rules.specs.Bits.{bit, lowByte, highByte}
 use Rattle.rules.specs.Lists.{some?}
 use Rattle.rules.specs.Chip.{Chip, pagesAt, allocated, free}
 use Rattle.rules.specs.Fields.{setTx, inRegisters, inPool, inMemory}
 use Rattle.rules.specs.Answers.{Effect, Turn, did, refuse}
 use Rattle.rules.specs.Packet.{getBytes, putBytes}
-use Rattle.rules.specs.Mmu.{Command, nothing, allocate, reset, removeRx, removeAndRelease, release, enqueue, resetTx, unknown, decode, due, settle, freed, ifHead, perform}
+use Rattle.rules.specs.Mmu.{Command, nothing, allocate, reset, removeRx, removeAndRelease, release, enqueue, resetTx, unknown, decode, settle, freed, ifHead, perform}
 use Rattle.rules.specs.Data.{rcv, address, ifPacket, ifOpen, moved, readData, writeData}
 use Rattle.rules.specs.Registers.{Lanes, low, high, both, Register, TCR, EPHSR, RCR, ECR, MIR, RESERVED, STATION, CONTROL, COMMAND, PACKET, HEADS, POINTER, DATA, INTERRUPT, TABLE, BANK, UNUSED, ABSENT, width, bytesOf, headOf, newRcr, writeRcr, writeInterrupt, readRegister, writeRegister, registerAt, misplaced, lanesAt, Access, read, write, access}
-use Rattle.rules.specs.Receive.{Frame, Arrival, stored, disabled, notAccepted, tooLong, bad, noRoom, dataLength, needed, valueFor, image, after, verdict, arrive}
+use Rattle.rules.specs.Receive.{Frame, Arrival, stored, disabled, notAccepted, tooLong, bad, noRoom, dataLength, needed, image, after, verdict, arrive}
 use Rattle.rules.specs.Send.{Send, good, sentRegisters, autoRelease, retire, statusWord, statusWritten, sendHead, finish}
 use Rattle.rules.specs.Link.{plug}
 use Rattle.rules.specs.Step.{Input, driver, frame, sent, link, serve, stepOf}
 use Rattle.rules.specs.Tests.{fit}
-use Rattle.wellformed.specs.Cases.{pick, pick-by, by-settle, by-head, by-idle, by-packet, by-tests, by-lanes, by-read, by-plug, by-send}
+use Rattle.wellformed.specs.Cases.{pick, by-settle, by-head, by-idle, by-packet, by-tests, by-lanes, by-read, by-plug, by-send}
 use Rattle.laws.specs.Head.{headPages}
 use Rattle.laws.specs.DataAccesses.{meant, dataIn}
 

@@ -13,7 +13,7 @@ use Rattle.rules.specs.Packet.{place, getBytes, putBytes}
 use Rattle.rules.specs.Mmu.{decode, perform, due, settle}
 use Rattle.rules.specs.Link.{shown}
 use Rattle.rules.specs.Data.{address, advance, next, ifPacket, against, oddFixed, past, ifOpen, valueOf, readData, writeData}
-use Rattle.rules.specs.Registers.{Access, read, write, byte, word, registerAt, misplaced, lanesAt, taken, merged, width, bytesOf, newRcr, writeRcr, forgotten, writeTcr, lowOnly, readRegister, writeRegister, access}
+use Rattle.rules.specs.Registers.{read, write, byte, word, registerAt, misplaced, lanesAt, taken, merged, width, bytesOf, newRcr, writeRcr, forgotten, writeTcr, lowOnly, readRegister, writeRegister, access}
 use Rattle.rules.specs.Crc.{crcBit, crcBits, crcFrom, crc, hash, mirror, fcsWord, fourBytes}
 use Rattle.rules.specs.Receive.{Frame, sameBytes, badCrc, broadcast, group, inTable, accepted, dataLength, countOf, pagesFor, needed, valueFor, dropped, judge, groupBits, frameStatus, trailer, image, after, arrive}
 use Rattle.rules.specs.Send.{inLimits, byteCount, sendLength, appends, padded, ended, onWire, controlByte, putOut, good, failureBit, collisionBits, outcomeBits, addressBits, nibble, counted, tally, nibbles, anyAt15, newEcr, newEphsr, autoRelease, sendHead, ifUsable, ifSendable, finish}
@@ -51,7 +51,7 @@ abbrev everyone : List ℕ
 everyone = replicate 6 0xff
 
 -- Arriving frames. A chip that receives stores a broadcast of 64 bytes,
-abbrev plain : Frame
+abbrev pub plain : Frame
 plain = to everyone (replicate 54 0 ++ (0x1f ∷ 0x94 ∷ 0xc0 ∷ 0x42 ∷ []))
 
 abbrev arriving : Frame → List Input
@@ -98,7 +98,7 @@ alignment-needed = (refl, (refl, refl))
 abbrev behind : List ℕ → List ℕ → Frame
 behind head fcs = to everyone (replicate 248 0 ++ head ++ replicate 10 0 ++ fcs)
 
-abbrev queued : Frame → List Input
+abbrev pub queued : Frame → List Input
 queued f =
     map driver (write word 4 0x100 ∷ write word 0 1 ∷ []) ++ (frame f ∷ [])
     ++ map driver (write byte 0xe 2 ∷ write byte 0 0x80 ∷ write byte 0 0x20 ∷ write byte 0 0x20 ∷ write byte 2 1 ∷ write byte 0 0xc0 ∷ [])
@@ -113,7 +113,7 @@ pub record Before (n : ℕ) (run : Frame → List Input) (f g : Frame) (here the
   pub yours : headAfter n (run g) ≡ there
 
 -- A count of 12, and an address of six FFh: ten bytes go out.
-abbrev counted12 : Frame
+abbrev pub counted12 : Frame
 counted12 = behind (12 ∷ 0 ∷ everyone) (0x93 ∷ 0xac ∷ 0xdb ∷ 0x61 ∷ [])
 
 good12 : badCrc (counted12 .bytes) ≡ false
@@ -189,7 +189,7 @@ pub address-needed : ToOther 0 (0x02 ∷ 0x3d ∷ 0xb3 ∷ 0xcf ∷ []) 1 × ToO
 address-needed = (to-0, to-1, to-2, to-3, to-4, to-5)
 
 -- A received packet is taken from RX, its count is written anew, and it joins TX: its control byte is the frame's byte 7, and says in bit 5 whether a byte more goes out.
-abbrev shortened : Frame → List Input
+abbrev pub shortened : Frame → List Input
 shortened f =
     map driver (write word 4 0x100 ∷ write word 0 1 ∷ []) ++ (frame f ∷ [])
     ++ map driver (write byte 0xe 2 ∷ write byte 0 0x60 ∷ write word 6 0x4002 ∷ write word 8 12 ∷ write byte 0 0xc0 ∷ [])
@@ -210,7 +210,7 @@ unfolding lastReply
 read-differs = (refl, refl)
 
 -- and a received packet that is sent on as it is, which the promise is about, puts other bytes out, as many.
-abbrev sentOn : Frame → List Input
+abbrev pub sentOn : Frame → List Input
 sentOn f = map driver (write word 4 0x100 ∷ write word 0 1 ∷ []) ++ (frame f ∷ []) ++ map driver (write byte 0xe 2 ∷ write byte 0 0x60 ∷ write byte 0 0xc0 ∷ [])
 
 abbrev head70 : List ℕ

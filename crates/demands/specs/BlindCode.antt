@@ -1,5 +1,5 @@
 -- Payload blindness (document 02, W10), of the code: two runs of a chip's public entries from power-up, on inputs alike. Registers, page sets or counts and queues are the same words and bytes after every call.
-use mathlib.Core.Path.{_≡_, refl, ap, sym, subst, _∙_}
+use mathlib.Core.Path.{_≡_, ap, sym, subst, _∙_}
 use mathlib.Core.Bool.{Bool}
 use mathlib.Core.List.{List, [], _∷_}
 use Prim.Native.Nat.{ℕ}
@@ -11,7 +11,7 @@ use Rattle.rules.specs.Step.{Input, stepOf}
 use Rattle.state.specs.Only.{one-record}
 use Rattle.blind_laws.specs.Alike.{InputsAlike, none, next, SendsAlike, ButBytes, TurnsAlike}
 use Rattle.blind_laws.specs.Blindness.{same-step}
-use Rattle.demands.specs.Boards.{Board, Left, boardAfter, chipOf, GoodOf, Serves, Starts, Shows, Runs, AsRules, serves-right}
+use Rattle.demands.specs.Boards.{Board, Left, boardAfter, chipOf, GoodOf, Starts, Shows, Runs, AsRules, serves-right}
 use Rattle.demands.specs.OfCode.{starts-up}
 use Rattle.demands.specs.LinkOfCode.{turnOf}
 
