@@ -73,7 +73,8 @@ pub record ButBytes (c d : Chip) : Type 0 where
 -- The turns t of i on c and u of the input in its place: "every answer agrees but the value of data reads and the bytes put out; so do registers, queues, page numbers and the line."
 pub record TurnsAlike (i : Input) (c : Chip) (t u : Turn) : Type 0 where
   pub number : u .reply .number ≡ t .reply .number
-  pub value : dataRead i c ≡ 0 → u .reply .value ≡ t .reply .value
+  -- but of a data read that is done
+  pub value : (t .reply .number ≡ 0 → dataRead i c ≡ 0) → u .reply .value ≡ t .reply .value
   -- as many bytes are put out
   pub putOut : length (bytesOut u) ≡ length (bytesOut t)
   pub after : ButBytes (t .chip) (u .chip)

@@ -28,10 +28,10 @@ holding bytes c = record { regs = c .regs; pool = c .pool; memory = bytes }
 pub is-holding : {c d : Chip} → ButBytes c d → d ≡ holding (d .memory) c
 is-holding {c} {d} e = λ i. record { regs = e .registers i; pool = e .pool i; memory = d .memory }
 
--- the two effects of an access, of which `wide` bytes of data are its value
+-- the two effects of an access, whose value is `wide` bytes of data where it is done
 pub record Effects (wide : ℕ) (e u : Effect) : Type 0 where
   pub number : u .reply .number ≡ e .reply .number
-  pub value : wide ≡ 0 → u .reply .value ≡ e .reply .value
+  pub value : (e .reply .number ≡ 0 → wide ≡ 0) → u .reply .value ≡ e .reply .value
   pub chips : ButBytes (e .chip) (u .chip)
 
 module _ (bytes m : List ℕ) (long : length bytes ≡ length m) where
@@ -104,7 +104,7 @@ module _ (c : Chip) (bytes : List ℕ) (long : length bytes ≡ length (c .memor
   -- A read of no bytes has value 0 on both; any other may tell other bytes, and does the same.
   reads-data : (w : ℕ) → Effects w (readData w c) (readData w other)
   unfolding readData
-  reads-data w = by-packet-both _ _ (λ pages. by-tests-both true w pages _ _ (record { number = refl; value = λ e. none-read w pages e; chips = beside bytes (c .memory) long }))
+  reads-data w = by-packet-both _ _ (λ pages. by-tests-both true w pages _ _ (record { number = refl; value = λ e. none-read w pages (e refl); chips = beside bytes (c .memory) long }))
 
   -- The same bytes are put into both.
   writes-data : (written : List ℕ) → R (writeData written c) (writeData written other)
@@ -193,4 +193,4 @@ same-plug {c} {d} e x = subst (λ (y : Chip). Effects 0 (plug x c) (plug x y)) (
 
 -- So no register access but a data read looks at memory: the whole reply is the same, whatever stands there.
 pub no-look : (a : Access) (c : Chip) (bytes : List ℕ) → length bytes ≡ length (c .memory) → dataRead (driver a) c ≡ 0 → access a (holding bytes c) .reply ≡ access a c .reply
-no-look a c bytes long none = let e = accesses c bytes long a in λ i. record { number = e .number i; value = e .value none i }
+no-look a c bytes long none = let e = accesses c bytes long a in λ i. record { number = e .number i; value = e .value (λ d. none) i }
