@@ -1,20 +1,21 @@
--- Two runs alike agree in every byte of memory that is not private; so they agree in what each send looks at, where that is none.
+-- Two runs alike agree in every byte of memory that is not private: so in what each send looks at, where that is none, and in what a data read of such bytes gives.
 use mathlib.Core.Path.{_≡_, refl, ap, sym, subst, _∙_}
 use mathlib.Core.Bool.{Bool, true, false, cond, not, true≢false}
 use mathlib.Core.List.{List, [], _∷_, _++_}
-use Prim.Native.Nat.{ℕ, zero, suc, _+_, _-_, _≤_}
+use Prim.Native.Nat.{ℕ, zero, suc, _+_, _-_, _≤_, _<_}
 use native.Mathlib.Omega.{arith}
 use borrow.Author.Tests.{eqb-true, eqb-false, ltb-false}
 use lib.Dec.{eqb, ltb}
 use lib.ListN.{length, getD, take, drop, set, replicate, length-set, length-take, length-drop}
 use lib.Seq.{length-take-le, take-add, getD-set-other}
 use Rattle.rules.specs.Bits.{bit}
-use Rattle.rules.specs.Chip.{Layout, Registers, Chip, pagesAt, free, powered}
-use Rattle.rules.specs.Answers.{Effect, Turn}
+use Rattle.rules.specs.Chip.{Layout, Registers, Chip, pagesAt, allocated, free, powered}
+use Rattle.rules.specs.Answers.{Effect, Turn, doneWith, refuse}
 use Rattle.rules.specs.Tests.{fit}
-use Rattle.rules.specs.Data.{address}
-use Rattle.rules.specs.Registers.{read, write}
-use Rattle.rules.specs.Packet.{place, putBytes}
+use Rattle.rules.specs.Mmu.{ifHead}
+use Rattle.rules.specs.Data.{rcv, address, against, oddFixed, past, ifPacket, ifOpen, moved, valueOf, readData}
+use Rattle.rules.specs.Registers.{headOf, read, write}
+use Rattle.rules.specs.Packet.{place, getBytes, putBytes}
 use Rattle.rules.specs.Receive.{Frame, Arrival, stored, disabled, notAccepted, tooLong, bad, noRoom, dataLength, image, trailer, verdict, arrive}
 use Rattle.rules.specs.Send.{Send}
 use Rattle.rules.specs.Step.{Input, driver, frame, sent, link, serve, stepOf}
@@ -25,6 +26,7 @@ use Rattle.laws.specs.Placed.{get-alike}
 use Rattle.laws.specs.Sendable.{done-sendable}
 use Rattle.laws.specs.PutOut.{step-done}
 use Rattle.laws.specs.DataAccesses.{meant}
+use Rattle.laws.specs.LinkSteps.{pick-alike}
 use Rattle.blind_laws.specs.Alike.{FrameAlike, InputAlike, accessed, linked, finished, arrived, InputsAlike, none, next, HeadAlike, SendAlike, SendsAlike, ButBytes}
 use Rattle.blind_laws.specs.BlindAccesses.{holding, is-holding}
 use Rattle.blind_laws.specs.BlindFrames.{same-judge, same-status}
@@ -176,15 +178,60 @@ module _ (n : ℕ) (c : Chip) {p : Private} (bytes : List ℕ) (known : Known p 
   send-alike (sent s out) o = λ r. head-alike (o r)
   send-alike (link x) o = tt
 
--- So what each send looks at agrees, throughout,
-pub sends-alike : (n : ℕ) {is js : List Input} → InputsAlike is js → {p : Private} {c d : Chip} → ButBytes c d → Known p (c .memory) (d .memory) → SendsOpen n is c p → SendsAlike n is js c d
-sends-alike n none b k o = tt
-sends-alike n (next {i} {j} {is} {js} a more) {p} {c} {d} b k o =
+-- before each input the memories agree in every byte that is not private
+abbrev pub KnownThroughout : ℕ → List Input → List Input → Chip → Chip → Private → Type 0
+KnownThroughout n [] js c d p = Known p (c .memory) (d .memory)
+KnownThroughout n (i ∷ is) [] c d p = Unit {0}
+KnownThroughout n (i ∷ is) (j ∷ js) c d p = Known p (c .memory) (d .memory) × KnownThroughout n is js (stepOf n i c .chip) (stepOf n j d .chip) (privateAfter n i c p)
+
+-- So they agree throughout, and so does what each send looks at;
+pub record OpenRuns (n : ℕ) (is js : List Input) (c d : Chip) (p : Private) : Type 0 where
+  pub sends : SendsAlike n is js c d
+  pub known : KnownThroughout n is js c d p
+
+pub open-runs : (n : ℕ) {is js : List Input} → InputsAlike is js → {p : Private} {c d : Chip} → ButBytes c d → Known p (c .memory) (d .memory) → SendsOpen n is c p → OpenRuns n is js c d p
+open-runs n none b k o = record { sends = tt; known = k }
+open-runs n (next {i} {j} {is} {js} a more) {p} {c} {d} b k o =
     let h : SendAlike i c (holding (d .memory) c) = send-alike n c (d .memory) k i (o .0) in
     let t = same-step n a (record { registers = refl; pool = refl; asLong = b .asLong }) h in
-    subst (λ (x : Chip). SendAlike i c x × SendsAlike n is js (stepOf n i c .chip) (stepOf n j x .chip)) (sym (is-holding b))
-    (h, sends-alike n more (t .after) (step-known n c (d .memory) k a h (t .number)) (o .1))
+    let r = open-runs n more (t .after) (step-known n c (d .memory) k a h (t .number)) (o .1) in
+    subst (λ (x : Chip). OpenRuns n (i ∷ is) (j ∷ js) c x p) (sym (is-holding b)) (record { sends = (h, r .sends); known = (k, r .known) })
 
 -- and so of two runs from power-up, where of one of them it is known that no send looks at a private byte.
-pub open-alike : (n : ℕ) (l : Layout) {is js : List Input} → InputsAlike is js → SendsOpen n is (powered l n) nonePrivate → SendsAlike n is js (powered l n) (powered l n)
-open-alike n l a o = sends-alike n a (record { registers = refl; pool = refl; asLong = refl }) (record { asLong = refl; same = λ x e. refl }) o
+pub open-alike : (n : ℕ) (l : Layout) {is js : List Input} → InputsAlike is js → SendsOpen n is (powered l n) nonePrivate → OpenRuns n is js (powered l n) (powered l n) nonePrivate
+open-alike n l a o = open-runs n a (record { registers = refl; pool = refl; asLong = refl }) (record { asLong = refl; same = λ x e. refl }) o
+
+-- A data read of bytes that are not private gives the same on both: only one that shows a private byte may give another value.
+module _ (c : Chip) {p : Private} (bytes : List ℕ) (known : Known p (c .memory) bytes) (w : ℕ) where
+  abbrev at : ℕ
+  at = address (c .regs .pointer)
+
+  -- the bytes that it would read in these pages are not private
+  abbrev pub ReadOpen : List ℕ → Type 0
+  ReadOpen pages = (j : ℕ) → at ≤ j → j < at + w → p (place pages j) ≡ false
+
+  abbrev gives : List ℕ → Chip → List ℕ → Effect
+  gives m x pages = ifOpen true w pages x (doneWith (valueOf (getBytes w at pages m)) (moved w x))
+
+  opened : (pages : List ℕ) → ReadOpen pages → gives bytes (holding bytes c) pages .reply ≡ gives (c .memory) c pages .reply
+  unfolding ifOpen place
+  opened pages o =
+      let R : Effect → Effect → Type 0 = λ e u. u .reply ≡ e .reply in
+      let q = c .regs .pointer in
+      pick-alike R (against true q) refl
+      (pick-alike R (oddFixed q) refl
+      (pick-alike R (past w q pages) refl (ap (λ (l : List ℕ). record { number = 0; value = valueOf l }) (get-alike w at pages (c .memory) pages bytes (λ j l h. known .same _ (o j l h))))))
+
+  pub read-known : ReadOpen (pagesAt c (meant c)) → readData w (holding bytes c) .reply ≡ readData w c .reply
+  unfolding readData ifPacket headOf
+  read-known o = go (rcv (c .regs .pointer)) (c .pool .rx) o
+    where
+      k : ℕ
+      k = c .regs .numbers .packet
+
+      go : (b : Bool) (rx : List ℕ) → ReadOpen (pagesAt c (cond b (headOf rx) k))
+          → cond b (ifHead (holding bytes c) rx (λ j js. gives bytes (holding bytes c) (pagesAt c j))) (cond (not (allocated k c)) (refuse 5 (holding bytes c)) (gives bytes (holding bytes c) (pagesAt c k))) .reply
+          ≡ cond b (ifHead c rx (λ j js. gives (c .memory) c (pagesAt c j))) (cond (not (allocated k c)) (refuse 5 c) (gives (c .memory) c (pagesAt c k))) .reply
+      go true [] o = refl
+      go true (j ∷ js) o = opened (pagesAt c j) o
+      go false rx o = pick-alike (λ (e u : Effect). u .reply ≡ e .reply) (not (allocated k c)) refl (opened (pagesAt c k) o)

@@ -37,7 +37,7 @@ use Rattle.strip_laws.specs.StripsAlike.{StripsBeside, strips-beside}
 use Rattle.blind_laws.specs.Alike.{InputsAlike, SendsAlike, RunsAlike}
 use Rattle.blind_laws.specs.Blindness.{blind}
 use Rattle.blind_laws.specs.Private.{nonePrivate, SendsOpen}
-use Rattle.blind_laws.specs.PrivateKept.{open-alike}
+use Rattle.blind_laws.specs.PrivateKept.{OpenRuns, open-alike}
 use Rattle.laws.specs.Theorems.{Whole, power-up-whole, step-whole, pages-accounted, since-power-up, since-reset}
 use Rattle.demands.specs.Boards.{Board, partIn, Left, replyTo, boardAfter, chipOf, ReadyBy, Good, GoodOf, Serves, Starts, Shows, Runs, Refused16, AsRules, good-part, good-size, serves-right, serves-refused, serves-once}
 use Rattle.demands.specs.OfCode.{good-whole, serves-numbers, serves-leaves, serves-values, serves-sixteen, serves-no17, serves-part, serves-earlier, serves-counts, serves-pages, starts-up, BalancesOn, runs-balanced, runs-balanced-since, serves-good-crc, AlikeOn, any-two-on}
@@ -157,8 +157,8 @@ pub record TwoParts : Type 0 where
 -- in the two runs. Then every answer agrees but the value of data reads and the bytes put out; so do registers, queues, page numbers and the line." (`blind_laws/specs/Alike` has each word of it.)
 pub record PayloadBlind (n : ℕ) : Type 0 where
   pub blind : (l : Layout) (is js : List Input) → InputsAlike is js → SendsAlike n is js (powered l n) (powered l n) → RunsAlike n is js (powered l n) (powered l n)
-  -- what is asked of sends is known from one run alone: no send looks at a byte that a frame left from its byte 6 on, and that nothing was put over since
-  pub known : (l : Layout) (is js : List Input) → InputsAlike is js → SendsOpen n is (powered l n) nonePrivate → SendsAlike n is js (powered l n) (powered l n)
+  -- what is asked of sends is known from one run alone: no send looks at a private byte, one that a frame left from its byte 6 on, and that nothing was put over since. The two memories then agree in every other byte, throughout
+  pub known : (l : Layout) (is js : List Input) → InputsAlike is js → SendsOpen n is (powered l n) nonePrivate → OpenRuns n is js (powered l n) (powered l n) nonePrivate
   -- Of the code, on both chips: each call of two runs, and the boards at the end.
   pub codeBlind : (l : Layout) (is js : List Input) → InputsAlike is js → SendsAlike n is js (powered l n) (powered l n) → (u v : Left) → Starts l n u → Starts l n v
       → (xs ys : List Left) → Runs l is (u .board) xs → Runs l js (v .board) ys → AllLeftAlike l is (u .board) xs ys × BoardsAlike l (boardAfter (u .board) xs) (boardAfter (v .board) ys)
