@@ -14,8 +14,8 @@ ghost use Rattle.state.specs.Promise.{QueuesIn};
 ghost use Rattle.records.specs.Gathers.{holding};
 ghost use Rattle.lines.specs.Counting.{Counts};
 ghost use Rattle.turns.specs.Turns.{Held};
-ghost use Rattle.serving.specs.Batch.{formOf, widest, roomFor, Prints, Answered};
-ghost use Rattle.serving.specs.Printed.{lastLine};
+ghost use Rattle.batches.specs.Batch.{formOf, widest, roomFor, Prints, Answered};
+ghost use Rattle.batches.specs.Printed.{lastLine};
 
 // The line of a record, the bench's or that of `watch`; returns the place behind it. The interrupt line is the caller's, so that this stays short enough for the compiler to have it in the loop.
 pub fn print(

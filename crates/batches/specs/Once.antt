@@ -5,7 +5,7 @@ use Prim.Native.Nat.{ℕ, _≤_}
 use lib.ListN.{length, take}
 use Rattle.rules.specs.Bench as rules
 use Rattle.turns.specs.Once.{same-place, Same, bench-once}
-use Rattle.serving.specs.Batch.{Answered}
+use Rattle.batches.specs.Batch.{Answered}
 
 -- The records of a read: the bench after them, the lines, where they end, and the next number. (That they end within their buffer is promised beside it.)
 pub answered-once : {w s q mem wire : List ℕ} {have : ℕ} {out w′ s′ q′ mem′ wire′ : List ℕ} {have′ : ℕ} {out′ : List ℕ}
