@@ -2,4 +2,5 @@
 pub mod Batch
 pub mod Rooms
 pub mod Printed
+pub mod Alone
 pub mod Once
