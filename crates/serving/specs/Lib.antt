@@ -1,4 +1,2 @@
--- What a run of steps of the bench promises, and what is printed for it.
-pub mod Batch
-pub mod Printed
-pub mod Once
+-- What the bench asks of a read.
+pub mod Fills

@@ -1,7 +1,7 @@
 // From standard input to standard output: what is there is read, its complete records are answered, and their lines are written, until the input ends.
-use crate::batch::answer_all;
-use crate::batch::last_line;
-use crate::batch::lone_line;
+use batches::answer_all;
+use batches::last_line;
+use batches::lone_line;
 use state::Answer;
 use state::Named;
 use state::Part;
@@ -14,7 +14,8 @@ ghost use Rattle.state.specs.View.{figures, Kept};
 ghost use Rattle.state.specs.Promise.{QueuesIn};
 ghost use Rattle.state.specs.Entry.{sizeIn, Whole};
 ghost use Rattle.turns.specs.Turns.{Held};
-ghost use Rattle.serving.specs.Batch.{roomFor, FillsMore};
+ghost use Rattle.batches.specs.Batch.{roomFor};
+ghost use Rattle.serving.specs.Fills.{FillsMore};
 
 // The bytes behind the last complete record go to the front; returns how many they are.
 fn keep_tail(input: &mut [u8], filled: usize) -> usize

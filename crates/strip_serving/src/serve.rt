@@ -1,9 +1,9 @@
 // From standard input to standard output: a record is read, answered, and its line written, before the next is waited for.
-use crate::turn::answer;
 use lines::Counter;
 use state::Answer;
 use state::Named;
 use state::Part;
+use strip_turns::answer;
 ghost use mathlib.Core.Path.{_≡_};
 ghost use Prim.Native.Nat.{ℕ, _≤_};
 ghost use lib.ListN.{length, take};

@@ -2,7 +2,7 @@ use borrow.Author.Needs.{needs}
 use Prim.Native.Nat.{ℕ}
 use native.Mathlib.Omega.{arith}
 use lib.ListN.{length-replicate}
-use Rattle.serving.specs.Batch.{roomFor}
+use Rattle.batches.specs.Batch.{roomFor}
 use Rattle.serving.proofs.serve.run.Statement.{statement}
 use Rattle.serving.proofs.serve.run.Tie as tie
 

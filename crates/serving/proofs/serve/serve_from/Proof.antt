@@ -6,7 +6,7 @@ use native.Mathlib.Omega.{arith}
 use lib.ListN.{length}
 use lib.Seq.{length-take-le}
 use Rattle.turns.specs.Turns.{Held}
-use Rattle.serving.proofs.Forms.{room-within}
+use Rattle.batches.specs.Rooms.{room-within}
 use Rattle.serving.proofs.serve.serve_from.Statement.{statement}
 use Rattle.serving.proofs.serve.serve_from.Tie as tie
 

@@ -5,7 +5,7 @@ use Prim.Native.Nat.{ℕ, _/_}
 use lib.ListN.{length, length-replicate}
 use Rattle.state.specs.Places.{record-long}
 use Rattle.chip.specs.Rights.{lent-part}
-use Rattle.serving.proofs.Forms.{room-within}
+use Rattle.batches.specs.Rooms.{room-within}
 use Rattle.serving.proofs.Lent.{powered-whole}
 use borrow.Author.Needs.{needs}
 use Rattle.serving.proofs.serve.serve_part.Statement.{statement}

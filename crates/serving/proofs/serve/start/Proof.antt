@@ -5,7 +5,7 @@ use mathlib.Core.List.{List, _++_}
 use Prim.Native.Nat.{ℕ, _/_, _≤_}
 use lib.ListN.{length, take, drop}
 use lib.Seq.{length-take-le}
-use Rattle.serving.proofs.Forms.{room-within}
+use Rattle.batches.specs.Rooms.{room-within}
 use borrow.Author.Needs.{needs}
 use Rattle.serving.proofs.serve.start.Statement.{statement}
 use Rattle.serving.proofs.serve.start.Tie as tie

@@ -3,8 +3,8 @@ use borrow.Author.Needs.{needs}
 use mathlib.Core.Path.{refl, sym}
 use native.Mathlib.Omega.{arith}
 use lib.Seq.{length-take-le}
-use Rattle.strip_serving.proofs.turn.frame_ends.Statement.{statement}
-use Rattle.strip_serving.proofs.turn.frame_ends.Tie as tie
+use Rattle.strip_turns.proofs.turn.frame_ends.Statement.{statement}
+use Rattle.strip_turns.proofs.turn.frame_ends.Tie as tie
 
 slice-aggregate-arrived : tie.Need-slice-aggregate-arrived
 slice-aggregate-arrived c = sym (length-take-le _ _ (omega arith))

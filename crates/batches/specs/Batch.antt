@@ -14,8 +14,6 @@ use Rattle.state.specs.Meaning.{replyOf}
 use Rattle.state.specs.View.{view}
 use Rattle.records.specs.Gathers.{holding}
 use Rattle.turns.specs.Turns.{Held}
-use Rattle.streams.specs.declared.input.Reading.{Reading}
-use Rattle.streams.specs.declared.input.Reading.the-variants.{Filled}
 
 -- the form of a program's lines: that of `watch`, or the bench's
 abbrev pub formOf : Bool → Form
@@ -29,10 +27,6 @@ widest false = 30
 
 unfoldable pub roomFor : Bool → ℕ → ℕ
 roomFor watching n = widest watching * n + 10
-
--- where bytes are there to be answered: more than were kept, or the record that was
-abbrev pub FillsMore : ℕ → ℕ → Reading → Type 0
-FillsMore k n r = (m : ℕ) → r ≡ Filled m → (k < m + m / 8) × (m ≤ n)
 
 -- the line of a reply, of any chip whose interrupt line is this, and of any event that is a send where `sent` says so
 abbrev pub Prints : Bool → ℕ → Answer → Bool → Bool → List ℕ → List ℕ → ℕ → List ℕ → ℕ → Type 0

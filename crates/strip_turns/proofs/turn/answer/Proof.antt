@@ -6,8 +6,8 @@ use Rattle.records.specs.declared.event.Event.{Event}
 use Rattle.records.specs.Event.{meant}
 use Rattle.turns.specs.Steps.{told, turns-as, access-turns, frame-turns, send-turns, link-turns, wire-turns, part-turns, unknown-turns}
 use Rattle.turns.specs.Served.{asked, asked-short, asked-whole}
-use Rattle.strip_serving.proofs.turn.answer.Statement.{statement}
-use Rattle.strip_serving.proofs.turn.answer.Tie as tie
+use Rattle.strip_turns.proofs.turn.answer.Statement.{statement}
+use Rattle.strip_turns.proofs.turn.answer.Tie as tie
 
 returns : tie.Need-returns
 returns c = let s = c .before .before .before .before .before .before .before .before in turns-as _ (asked-short (s .args .bytes .now) (omega (arith, c .if1 .taken))) (unknown-turns _ (s .pre .0))

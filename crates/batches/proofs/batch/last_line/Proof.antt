@@ -4,10 +4,10 @@ use mathlib.Core.Path.{sym, _∙_}
 use Rattle.rules.specs.Bench.{unknown, answer}
 use Rattle.state.specs.View.{view}
 use Rattle.records.specs.Gathers.{holding}
-use Rattle.serving.specs.Batch.{formOf}
-use Rattle.serving.proofs.Forms.{last-none, last-some, unknown-unsent}
-use Rattle.serving.proofs.batch.last_line.Statement.{statement}
-use Rattle.serving.proofs.batch.last_line.Tie as tie
+use Rattle.batches.specs.Batch.{formOf}
+use Rattle.batches.proofs.Forms.{last-none, last-some, unknown-unsent}
+use Rattle.batches.proofs.batch.last_line.Statement.{statement}
+use Rattle.batches.proofs.batch.last_line.Tie as tie
 
 returns : tie.Need-returns
 returns c = (λ s q mem wire h. sym (last-none (formOf (c .before .before .before .before .args .watching)) (c .before .before .before .before .args .number) _ (c .if1 .taken)), search needs)

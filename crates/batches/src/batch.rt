@@ -2,20 +2,16 @@
 use lines::Counter;
 use state::Answer;
 ghost use mathlib.Core.Path.{_≡_};
-ghost use mathlib.Core.Bool.{false};
 ghost use mathlib.Core.List.{List};
 ghost use Prim.Native.Nat.{ℕ, _+_, _/_, _≤_};
 ghost use lib.ListN.{length, take};
-ghost use Rattle.rules.specs.Bench.{Event};
-ghost use Rattle.rules.specs.Watch.{isSend};
-ghost use Rattle.state.specs.Meaning.{replyOf};
 ghost use Rattle.state.specs.View.{view, figures, Kept};
 ghost use Rattle.state.specs.Promise.{QueuesIn};
 ghost use Rattle.records.specs.Gathers.{holding};
 ghost use Rattle.lines.specs.Counting.{Counts};
 ghost use Rattle.turns.specs.Turns.{Held};
-ghost use Rattle.serving.specs.Batch.{formOf, widest, roomFor, Prints, Answered};
-ghost use Rattle.serving.specs.Printed.{lastLine};
+ghost use Rattle.batches.specs.Batch.{formOf, widest, roomFor, Prints, Answered};
+ghost use Rattle.batches.specs.Alone.{LoneLine, LastLine};
 
 // The line of a record, the bench's or that of `watch`; returns the place behind it. The interrupt line is the caller's, so that this stays short enough for the compiler to have it in the loop.
 pub fn print(
@@ -48,7 +44,7 @@ pub fn lone_line(
     answer: Answer,
 ) -> usize
     requires { ⌜ Kept (now words) × ((q : List ℕ) × QueuesIn (figures (now words)) q) × (length (now out) ≡ 2052) × (roomFor watching 1 ≤ length (now lines)) ⌝ }
-    ensures text { λ end. ⌜ ((e : Event) (s q mem wire : List ℕ) → isSend e ≡ false → QueuesIn (figures (now (words .entry))) q → take end (now (lines .exit)) ≡ formOf watching number e (record { reply = replyOf answer; after = holding (view (now (words .entry)) s q mem) wire (now (out .entry)) })) ⌝ }
+    ensures text { λ end. ⌜ LoneLine watching number answer (now (words .entry)) (now (out .entry)) (now (lines .exit)) end ⌝ }
     ensures fits { λ end. ⌜ end ≤ length (now (lines .entry)) ⌝ }
 {
     let counter = lines::counter_of(number);
@@ -66,7 +62,7 @@ pub fn last_line(
     number: u64,
 ) -> usize
     requires { ⌜ Kept (now words) × ((q : List ℕ) × QueuesIn (figures (now words)) q) × (length (now out) ≡ 2052) × (roomFor watching 1 ≤ length (now lines)) ⌝ }
-    ensures text { λ end. ⌜ ((s q mem wire : List ℕ) → QueuesIn (figures (now (words .entry))) q → take end (now (lines .exit)) ≡ lastLine (formOf watching) kept number (holding (view (now (words .entry)) s q mem) wire (now (out .entry)))) ⌝ }
+    ensures text { λ end. ⌜ LastLine watching kept number (now (words .entry)) (now (out .entry)) (now (lines .exit)) end ⌝ }
     ensures fits { λ end. ⌜ end ≤ length (now (lines .entry)) ⌝ }
 {
     if kept == 0 {

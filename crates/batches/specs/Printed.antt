@@ -10,7 +10,7 @@ use Rattle.rules.specs.Answers.{done}
 use Rattle.rules.specs.Bench.{Event, unknown, Bench, Answered, Form, plain, answer, asksFor, startedAs, answerTo, eventOf, printed, bench, started}
 use Rattle.rules.specs.Watch.{watched, watch}
 use Rattle.turns.specs.Served.{answered-later, answered-none, answered-part}
-use Rattle.serving.specs.Batch.{recordAt, benchAfter, linesFor}
+use Rattle.batches.specs.Batch.{recordAt, benchAfter, linesFor}
 
 -- the answer to the first record, and its line
 abbrev first : List ℕ → Bench → Answered

@@ -5,9 +5,9 @@ use Prim.Native.Nat.{_≤_}
 use native.Mathlib.Omega.{arith}
 use borrow.Author.Tests.{not-true, not-false}
 use Rattle.lists.specs.Written.{writes-as}
-use Rattle.serving.proofs.Forms.{plain-line, watched-line, wide-plain, wide-watched}
-use Rattle.serving.proofs.batch.print.Statement.{statement}
-use Rattle.serving.proofs.batch.print.Tie as tie
+use Rattle.batches.proofs.Forms.{plain-line, watched-line, wide-plain, wide-watched}
+use Rattle.batches.proofs.batch.print.Statement.{statement}
+use Rattle.batches.proofs.batch.print.Tie as tie
 
 line-at-requires : tie.Need-line-at-requires
 line-at-requires c κs =

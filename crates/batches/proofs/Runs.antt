@@ -16,8 +16,8 @@ use Rattle.state.specs.Promise.{QueuesIn}
 use Rattle.records.specs.Gathers.{holding}
 use Rattle.lines.specs.Parts.{taken}
 use Rattle.turns.specs.Turns.{Held, Turns}
-use Rattle.serving.specs.Batch as batch
-use Rattle.serving.specs.Batch.{formOf, Prints, recordAt, benchAfter, linesFor}
+use Rattle.batches.specs.Batch as batch
+use Rattle.batches.specs.Batch.{formOf, Prints, recordAt, benchAfter, linesFor}
 
 -- No record is answered yet.
 pub none-yet : {form : Form} {k number : ℕ} (input w s q mem wire : List ℕ) (have : ℕ) (out lines : List ℕ) → number ≡ k → Held w s q mem wire have

@@ -9,10 +9,10 @@ use Rattle.state.specs.View.{view}
 use Rattle.records.specs.Gathers.{holding}
 use Rattle.lines.specs.Counting.{counter-number, counter-counts}
 use Rattle.lines.specs.Parts.{taken}
-use Rattle.serving.specs.Batch.{formOf}
-use Rattle.serving.proofs.Forms.{room-none, room-more}
-use Rattle.serving.proofs.batch.lone_line.Statement.{statement}
-use Rattle.serving.proofs.batch.lone_line.Tie as tie
+use Rattle.batches.specs.Batch.{formOf}
+use Rattle.batches.specs.Rooms.{room-none, room-more}
+use Rattle.batches.proofs.batch.lone_line.Statement.{statement}
+use Rattle.batches.proofs.batch.lone_line.Tie as tie
 
 print-requires : tie.Need-print-requires
 print-requires c κs =

@@ -9,12 +9,12 @@ use lib.Seq.{length-take-le}
 use Rattle.state.specs.View.{view}
 use Rattle.records.specs.Gathers.{holding}
 use Rattle.lines.specs.Counting.{Counts, counter-number, counter-counts}
-use Rattle.serving.specs.Batch.{Answered, recordAt}
-use Rattle.serving.specs.Batch.{formOf, widest, roomFor}
-use Rattle.serving.proofs.Runs.{none-yet, one-more}
-use Rattle.serving.proofs.Forms.{room-none, room-more, room-less}
-use Rattle.serving.proofs.batch.answer_all.Statement.{statement}
-use Rattle.serving.proofs.batch.answer_all.Tie as tie
+use Rattle.batches.specs.Batch.{Answered, recordAt}
+use Rattle.batches.specs.Batch.{formOf, widest, roomFor}
+use Rattle.batches.proofs.Runs.{none-yet, one-more}
+use Rattle.batches.specs.Rooms.{room-none, room-more, room-less}
+use Rattle.batches.proofs.batch.answer_all.Statement.{statement}
+use Rattle.batches.proofs.batch.answer_all.Tie as tie
 
 -- the bytes lent are those of the record, and they are eight
 record-told : (k : ℕ) (input : List ℕ) → take (8 * k + 8 - 8 * k) (drop (8 * k) input) ≡ recordAt k input

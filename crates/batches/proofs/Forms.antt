@@ -1,15 +1,14 @@
--- The two forms of a line, and the room that lines take.
+-- The two forms of a line.
 use mathlib.Core.Path.{_≡_, refl, ap, sym, _∙_}
 use mathlib.Core.Bool.{Bool, true, false}
 use mathlib.Core.List.{List, []}
-use Prim.Native.Nat.{ℕ, zero, suc, _+_, _≤_}
-use native.Mathlib.Omega.{arith}
+use Prim.Native.Nat.{ℕ, zero, suc}
 use Rattle.rules.specs.Answers.{Reply}
 use Rattle.rules.specs.Interrupts.{lineUp}
 use Rattle.rules.specs.Bench.{Event, unknown, Bench, Answered, Form, answer, line}
 use Rattle.rules.specs.Watch.{isSend, watchLine}
-use Rattle.serving.specs.Batch.{formOf, widest, roomFor}
-use Rattle.serving.specs.Printed.{lastLine}
+use Rattle.batches.specs.Batch.{formOf, widest}
+use Rattle.batches.specs.Printed.{lastLine}
 
 -- a reply is its number and its value
 reply-of : {n v : ℕ} {r : Reply} → n ≡ r .number → v ≡ r .value → record { number = n; value = v } ≡ r
@@ -42,22 +41,3 @@ wide-plain e = ap widest e
 
 pub wide-watched : {w : Bool} → w ≡ true → widest w ≡ 4144
 wide-watched e = ap widest e
-
--- The room for no line, for one more, and for fewer.
-pub room-none : (w : Bool) → roomFor w 0 ≡ 10
-unfolding roomFor
-room-none true = refl
-room-none false = refl
-
-pub room-more : (w : Bool) (k : ℕ) → roomFor w (k + 1) ≡ roomFor w k + widest w
-unfolding roomFor
-room-more true k = omega arith
-room-more false k = omega arith
-
-pub room-less : (w : Bool) {k n : ℕ} → k ≤ n → roomFor w k ≤ roomFor w n
-unfolding roomFor
-room-less true h = omega arith
-room-less false h = omega arith
-
-pub room-within : (w : Bool) {k n m : ℕ} → k ≤ n → roomFor w n ≤ m → roomFor w k ≤ m
-room-within w h l = omega (arith, room-less w h)

@@ -1,0 +1,3 @@
+-- Facts for the records at hand.
+pub mod Runs
+pub mod Forms
