@@ -10,7 +10,7 @@ ghost use Rattle.rules.specs.Chip.{paged};
 ghost use Rattle.rules.specs.Step as rules;
 ghost use Rattle.state.specs.View.{view};
 ghost use Rattle.state.specs.Entry.{InOrder, Right, recordView, Whole, Leaves, Answers};
-ghost use Rattle.receive.specs.Arrivals.{frameOf};
+ghost use Rattle.judging.specs.Frames.{frameOf};
 
 // The step below the public entry: no check is repeated here.
 pub fn arrived(

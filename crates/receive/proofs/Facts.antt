@@ -1,36 +1,21 @@
--- What the proofs of a verdict and of an aborted frame share.
+-- What the proofs of an aborted frame share.
 use mathlib.Core.Path.{_≡_, refl, ap, ap₂, sym, _∙_}
-use mathlib.Core.Bool.{Bool, true, false, cond, not}
+use mathlib.Core.Bool.{Bool, true, false}
 use mathlib.Core.List.{List}
 use Prim.Native.Nat.{ℕ, _+_, _*_}
 use native.Mathlib.Omega.{arith}
-use lib.ListN.{length, set}
-use lib.Dec.{ltb}
+use lib.ListN.{set}
 use Rattle.rules.specs.Bits.{bit, setBit, clearBit, flag}
 use Rattle.rules.specs.Chip.{Registers, Chip}
 use Rattle.rules.specs.Fields.{setRcr, setTxEmpty, setOverrun, inRegisters}
 use Rattle.rules.specs.Answers.{Effect, doneWith}
-use Rattle.rules.specs.Receive.{Frame, destination, accepted, dataLength, countOf, pagesFor, needed, dropped, judge, stored, disabled, notAccepted, tooLong, bad, noRoom, abort}
+use Rattle.rules.specs.Receive.{abort}
 use Rattle.bits.specs.Laws.{bit-set, bit-set-other}
 use Rattle.state.specs.declared.Answer.{Answer}
 use Rattle.state.specs.declared.Answer.the-variants.{Done}
 use Rattle.state.specs.View.{word, registersIn, Latches, Kept}
 use Rattle.state.specs.Promise.{Sets, sets-as, sets-chip, Does}
 use Rattle.state.specs.Stores.{store-rcr, store-latches}
-use Rattle.receive.specs.Arrivals.{withRcr, withControl}
-
--- The rules see only what a part is given of the registers.
-module _ (r : Registers) where
-  pub dropped-by : (f : Frame) → dropped r f ≡ dropped (withControl (r .control)) f
-  unfolding dropped
-  dropped-by f = refl
-
-  -- The judgement, with its tests answered.
-  pub judge-is : (free : ℕ) (f : Frame) (a b x d y : Bool) → bit 8 (r .receiving .rcr) ≡ a → accepted r (destination f) ≡ b → ltb 1532 (length (f .bytes)) ≡ x → dropped r f ≡ d
-      → ltb free (needed r (length (f .bytes)) + r .receiving .reserved) ≡ y
-      → judge r free f ≡ cond (not a) disabled (cond (not b) notAccepted (cond x tooLong (cond d bad (cond y noRoom stored))))
-  unfolding judge
-  judge-is free f a b x d y e₁ e₂ e₃ e₄ e₅ = rw (e₁, e₂, e₃, e₄, e₅)
 
 -- A change of the registers is a step that answers v; and it may come before a step.
 pub does-with : {f : Registers → Registers} {w w′ : List ℕ} → (v : ℕ) → Sets f w w′ → Does (λ c. doneWith v (inRegisters f c)) w (Done v) w′

@@ -1,26 +1,15 @@
 -- What the parts of an arrival ask and promise: the rules' definitions at what each part is given.
-use mathlib.Core.Path.{_≡_, refl, ap, sym, _∙_}
+use mathlib.Core.Path.{_≡_, refl, sym}
 use mathlib.Core.Bool.{Bool, true, false, true≢false}
 use mathlib.Core.List.{List, []}
 use Prim.Native.Nat.{ℕ, _/_, _≤_}
 use lib.ListN.{length}
-use Rattle.rules.specs.Chip.{Registers, Layout, Chip, paged, resetRegisters}
+use Rattle.rules.specs.Chip.{Layout, Chip, paged}
 use Rattle.rules.specs.Answers.{Effect, doneWith}
-use Rattle.rules.specs.Fields.{setRcr, setControl}
 use Rattle.rules.specs.Receive.{Frame, Arrival, stored, disabled, notAccepted, tooLong, bad, noRoom, valueFor, judge, after}
 use Rattle.state.specs.View.{word, registersIn}
 use Rattle.state.specs.Promise.{ReadyOf}
-use Rattle.receive.specs.declared.Verdict.{Verdict}
-use Rattle.receive.specs.declared.Verdict.the-variants.{Stored, Disabled, NotAccepted, TooLong, Bad, NoRoom}
-
--- the arrival of the rules that a verdict is
-abbrev pub arrivalOf : Verdict → Arrival
-arrivalOf Stored = stored
-arrivalOf Disabled = disabled
-arrivalOf NotAccepted = notAccepted
-arrivalOf TooLong = tooLong
-arrivalOf Bad = bad
-arrivalOf NoRoom = noRoom
+use Rattle.judging.specs.Frames.{frameOf}
 
 -- is the frame stored
 abbrev pub isStored : Arrival → Bool
@@ -39,30 +28,6 @@ is-stored tooLong e = absurd (true≢false (sym e))
 is-stored bad e = absurd (true≢false (sym e))
 is-stored noRoom e = absurd (true≢false (sym e))
 
--- so a verdict is known from its arrival
-verdictOf : Arrival → Verdict
-verdictOf stored = Stored
-verdictOf disabled = Disabled
-verdictOf notAccepted = NotAccepted
-verdictOf tooLong = TooLong
-verdictOf bad = Bad
-verdictOf noRoom = NoRoom
-
-verdict-back : (v : Verdict) → verdictOf (arrivalOf v) ≡ v
-unfolding verdictOf
-verdict-back Stored = refl
-verdict-back Disabled = refl
-verdict-back NotAccepted = refl
-verdict-back TooLong = refl
-verdict-back Bad = refl
-verdict-back NoRoom = refl
-
-pub verdict-once : (a b : Verdict) → arrivalOf a ≡ arrivalOf b → a ≡ b
-verdict-once a b e = sym (verdict-back a) ∙ ap verdictOf e ∙ verdict-back b
-
-abbrev pub frameOf : List ℕ → Bool → Frame
-frameOf bytes alignment = record { bytes = bytes; alignment = alignment }
-
 -- what becomes of a frame that is not stored, the same of every frame
 abbrev pub turnedAway : Arrival → Chip → Effect
 turnedAway a c = doneWith (valueFor a) (after a (frameOf [] false) c)
@@ -75,13 +40,6 @@ any-frame notAccepted e f c = refl
 any-frame tooLong e f c = refl
 any-frame bad e f c = refl
 any-frame noRoom e f c = refl
-
--- Registers with these contents, for a rule that sees no others: the length and the flags of a frame are judged by them.
-abbrev pub withRcr : ℕ → Registers
-withRcr rcr = setRcr rcr (resetRegisters [] false)
-
-abbrev pub withControl : ℕ → Registers
-withControl control = setControl control (resetRegisters [] false)
 
 -- a frame that is long enough and judged to be stored, in a state that is in order
 pub record StowableOf (l : Layout) (w s q : List ℕ) (f : Frame) : Type 0 where

@@ -13,9 +13,10 @@ use Rattle.state.specs.Meaning.{replyOf}
 use Rattle.state.specs.View.{word, registersIn, viewOf}
 use Rattle.state.specs.Promise.{ReadyOf, Does, MakesOf, does-makes}
 use Rattle.pool.specs.Pages.{free-told}
-use Rattle.receive.specs.declared.Verdict.{Verdict}
-use Rattle.receive.specs.declared.Verdict.the-variants.{Stored}
-use Rattle.receive.specs.Arrivals.{arrivalOf, isStored, turnedAway, is-stored, any-frame, StowableOf}
+use Rattle.judging.specs.declared.Verdict.{Verdict}
+use Rattle.judging.specs.declared.Verdict.the-variants.{Stored}
+use Rattle.judging.specs.Verdicts.{arrivalOf}
+use Rattle.receive.specs.Arrivals.{isStored, turnedAway, is-stored, any-frame, StowableOf}
 
 module _ {l : Layout} {w s q : List ℕ} (r : ReadyOf l w s q) (mem : List ℕ) where
   pub refuses : (f : Frame) → length (f .bytes) < 18 → arrive f (viewOf l w s q mem) ≡ refuse 11 (viewOf l w s q mem)

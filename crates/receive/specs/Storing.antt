@@ -1,5 +1,5 @@
 -- What is known of a frame that is to be stored, in both layouts: it has a number, pages and a place in RX.
-use mathlib.Core.Path.{_≡_, refl, ap, sym, _∙_}
+use mathlib.Core.Path.{_≡_, ap}
 use mathlib.Core.Bool.{false}
 use mathlib.Core.List.{List, [], _∷_, _++_}
 use Prim.Native.Nat.{ℕ, _/_, _≤_, _<_}
@@ -7,10 +7,10 @@ use native.Mathlib.Omega.{arith}
 use lib.ListN.{length, set, take}
 use Rattle.rules.specs.Bits.{bit}
 use Rattle.rules.specs.Lists.{member, firstEmpty}
-use Rattle.rules.specs.Chip.{Registers, Layout, freeFor}
+use Rattle.rules.specs.Chip.{Layout, freeFor}
 use Rattle.rules.specs.Fields.{setPages, setRx, inPool}
 use Rattle.rules.specs.Packet.{putBytes}
-use Rattle.rules.specs.Receive.{Frame, badCrc, dataLength, countOf, pagesFor, needed, image, stow}
+use Rattle.rules.specs.Receive.{Frame, badCrc, dataLength, needed, image, stow}
 use Rattle.lists.specs.Facts.{if-not}
 use Rattle.lists.specs.Each.{each-member}
 use Rattle.wellformed.specs.Parts.{part-few}
@@ -21,17 +21,7 @@ use Rattle.wellformed.specs.Frames.{needs-one, needs-seven, data-short}
 use Rattle.state.specs.View.{word, registersIn, queueIn, listsOf, viewOf}
 use Rattle.pool.specs.Queues.{MayJoin, may-join-rx}
 use Rattle.pool.specs.Pages.{RepagesOf, free-told}
-use Rattle.receive.specs.Arrivals.{withRcr, StowableOf}
-
--- The rules see only RCR of the registers.
-module _ (r : Registers) where
-  pub data-by : (len : ℕ) → dataLength r len ≡ dataLength (withRcr (r .receiving .rcr)) len
-  unfolding dataLength
-  data-by len = refl
-
-  pub needed-by : (len n need : ℕ) → n ≡ dataLength (withRcr (r .receiving .rcr)) len → need ≡ pagesFor (countOf n) → need ≡ needed r len
-  unfolding needed
-  needed-by len n need e f = f ∙ ap (λ (x : ℕ). pagesFor (countOf x)) (e ∙ sym (data-by len))
+use Rattle.receive.specs.Arrivals.{StowableOf}
 
 module _ {l : Layout} {w s q : List ℕ} {f : Frame} (t : StowableOf l w s q f) where
   abbrev len : ℕ

@@ -1,15 +1,8 @@
-// A frame arrives.
-mod address; // address.rt: the destination address, and whether it is accepted
-mod check; // check.rt: the frame check sequence
-mod length; // length.rt: how much is stored of a frame, and its status
-mod judge; // judge.rt: the verdict
+// A frame arrives. What becomes of it is judged in `judging`.
 mod stow; // stow.rt: a frame that is stored
 
-pub use judge::judged;
-pub use length::count_of;
-pub use length::data_length;
-pub use length::pages_for;
-pub use length::status_of;
+use judging::Verdict;
+use judging::judged;
 use state::Answer;
 use state::LATCHES;
 use state::RCR;
@@ -23,17 +16,9 @@ ghost use Rattle.rules.specs.Fields.{setOverrun, inRegisters};
 ghost use Rattle.rules.specs.Receive.{abort, arrive};
 ghost use Rattle.state.specs.View.{view, Kept};
 ghost use Rattle.state.specs.Promise.{Ready, Does, Makes};
-ghost use Rattle.receive.specs.Arrivals.{arrivalOf, isStored, turnedAway, frameOf};
-
-// What becomes of a frame; the answer's value in the order of document 01 is 0 to 5.
-pub enum Verdict {
-    Stored,
-    Disabled,
-    NotAccepted,
-    TooLong,
-    Bad,
-    NoRoom,
-}
+ghost use Rattle.judging.specs.Frames.{frameOf};
+ghost use Rattle.judging.specs.Verdicts.{arrivalOf};
+ghost use Rattle.receive.specs.Arrivals.{isStored, turnedAway};
 
 // Is the frame stored?
 pub fn is_stored(verdict: Verdict) -> bool
@@ -98,7 +83,7 @@ pub fn arrived(
     if frame.len() < 18 {
         return Answer::OutsideLimits;
     }
-    let verdict = judge::judged(words, frame, alignment);
+    let verdict = judged(words, frame, alignment);
     if !is_stored(verdict) {
         return turned_away(words, verdict);
     }

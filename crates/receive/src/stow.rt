@@ -1,8 +1,8 @@
 // A frame that is stored.
-use crate::length::count_of;
-use crate::length::data_length;
-use crate::length::pages_for;
-use crate::length::status_of;
+use judging::count_of;
+use judging::data_length;
+use judging::pages_for;
+use judging::status_of;
 use sets::Packet;
 use state::Answer;
 use state::CONTROL;
@@ -14,7 +14,8 @@ ghost use Rattle.rules.specs.Answers.{doneWith};
 ghost use Rattle.rules.specs.Receive.{stow};
 ghost use Rattle.state.specs.View.{view};
 ghost use Rattle.state.specs.Promise.{Makes};
-ghost use Rattle.receive.specs.Arrivals.{frameOf, Stowable};
+ghost use Rattle.judging.specs.Frames.{frameOf};
+ghost use Rattle.receive.specs.Arrivals.{Stowable};
 
 // It takes the lowest unallocated number and the lowest free pages; the number goes to the end of RX.
 pub fn stowed(

@@ -12,7 +12,6 @@ use Rattle.rules.specs.Chip.{Layout, paged, Chip}
 use Rattle.rules.specs.Fields.{setTx, inRegisters, inPool}
 use Rattle.rules.specs.Answers.{Turn, refusal, refusalWith, refused, refusedWith}
 use Rattle.rules.specs.Packet.{getBytes, putBytes}
-use Rattle.rules.specs.Mmu.{giveBack}
 use Rattle.rules.specs.Link.{shown, shownEphsr}
 use Rattle.rules.specs.Send.{Send, inLimits, outcomeBits, addressBits, anyAt15, tally, newEphsr, sentRegisters, retire, statusWord, statusWritten}
 use Rattle.lists.specs.Facts.{is-true, le-decides, _and_, member-at}
@@ -21,8 +20,9 @@ use Rattle.state.specs.declared.Answer.{Answer}
 use Rattle.state.specs.Meaning.{replyOf}
 use Rattle.state.specs.View.{word, registersIn, figures, queueIn, listsOf, viewOf}
 use Rattle.state.specs.Promise.{QueuesIn, SoundOf, ReadyOf}
-use Rattle.pool.specs.Pages.{AltersOf, alters-sound}
-use Rattle.sending.specs.Sends.{SendsOf, headGone, Sent, RetiresOf, CompletesOf}
+use Rattle.outcomes.specs.Sent.{headGone, Sent}
+use Rattle.outcomes.specs.Retired.{RetiresOf}
+use Rattle.sending.specs.Sends.{SendsOf, CompletesOf}
 
 -- What is known of the state once the registers are set and the head has left TX.
 module _ {isGood : Bool} {s : Send} {bits : ℕ} {w q w′ q′ : List ℕ} (t : Sent isGood s bits w q w′ q′) where
@@ -54,10 +54,6 @@ module _ {isGood : Bool} {s : Send} {bits : ℕ} {w q w′ q′ : List ℕ} (t :
     chip = r .chip mem″ ∙ ap₂ (λ (i : ℕ) (d : Chip). retire released i d) h (sent-view l sets pages mem (getBytes 6 4 pages mem) e told m);
     sound = r .sound;
   }
-
--- The packet's pages are given back, and the queues stay.
-pub gives-back : {l : Layout} {released : Bool} {k : ℕ} {w s q w′ s′ : List ℕ} → released ≡ true → QueuesIn (figures w) q → AltersOf l (giveBack k) w s w′ s′ → RetiresOf l released k w s q w′ s′ q
-gives-back {q = q} e o a = rw e (record { chip = a .chip q; sound = alters-sound a q o })
 
 -- What a well-formed chip gives a send: the head of TX is allocated, and has 1 to 8 pages.
 some-length : (l : List ℕ) → some? l ≡ true → 1 ≤ length l

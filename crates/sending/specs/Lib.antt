@@ -1,5 +1,4 @@
 -- What the functions of this crate promise, in the words of the rules' `Send`.
-pub mod Numbers
 pub mod Sends
 -- The chip after each part, and a send with its tests answered: in both layouts.
 pub mod After

@@ -1,16 +1,16 @@
 // A send finishes: the TX head is sent.
-use crate::Send;
 use crate::address::address_bits;
-use crate::after::after_send;
-use crate::completion::is_full;
-use crate::completion::is_released;
-use crate::completion::retire;
-use crate::event::is_good;
-use crate::event::is_within;
 use crate::output::LEAST_COUNT;
 use crate::output::is_past;
 use crate::output::put_out;
 use on_wire::OUTPUT_BYTES;
+use outcomes::Send;
+use outcomes::after_send;
+use outcomes::is_full;
+use outcomes::is_good;
+use outcomes::is_released;
+use outcomes::is_within;
+use outcomes::retire;
 use sets::Address;
 use state::Answer;
 use state::COMPLETION_COUNT;
@@ -29,7 +29,7 @@ ghost use Rattle.sets.specs.Views.{pagesOf};
 ghost use Rattle.packet.specs.Room.{Room};
 ghost use Rattle.state.specs.View.{word, view};
 ghost use Rattle.state.specs.Promise.{Ready};
-ghost use Rattle.sending.specs.Numbers.{sendOf};
+ghost use Rattle.outcomes.specs.Numbers.{sendOf};
 ghost use Rattle.sending.specs.Sends.{headSent, Completes, Sends};
 
 // What a send does once its bytes are out: registers, TX, the status word, and what becomes of the packet. `pages` are those of the TX head.

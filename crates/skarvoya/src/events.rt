@@ -4,7 +4,7 @@ use lent::told;
 use state::Answer;
 ghost use mathlib.Core.List.{[]};
 ghost use Rattle.rules.specs.Step as rules;
-ghost use Rattle.receive.specs.Arrivals.{frameOf};
+ghost use Rattle.judging.specs.Frames.{frameOf};
 ghost use Rattle.skarvoya.specs.Calls.{Calls};
 
 // A frame arrives: its bytes with FCS, and the flag alignment.

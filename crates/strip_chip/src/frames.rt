@@ -11,7 +11,7 @@ ghost use Rattle.rules.specs.Step as rules;
 ghost use Rattle.state.specs.View.{viewOf};
 ghost use Rattle.state.specs.Entry.{InOrderOf, RightOf, recordView, WholeOf, LeavesOf};
 ghost use Rattle.strip_chip.specs.Entry.{Answers};
-ghost use Rattle.receive.specs.Arrivals.{frameOf};
+ghost use Rattle.judging.specs.Frames.{frameOf};
 
 // The step below the public entry: no check is repeated here.
 pub fn arrived(

@@ -1,10 +1,10 @@
 // A frame arrives. What becomes of it is judged as on the chip of pages, by the registers and the frame alone.
-use receive::count_of;
-use receive::data_length;
+use judging::count_of;
+use judging::data_length;
+use judging::judged;
+use judging::pages_for;
+use judging::status_of;
 use receive::is_stored;
-use receive::judged;
-use receive::pages_for;
-use receive::status_of;
 use receive::turned_away;
 use state::Answer;
 use state::CONTROL;
@@ -17,7 +17,8 @@ ghost use Rattle.rules.specs.Answers.{doneWith};
 ghost use Rattle.rules.specs.Receive.{stow, arrive};
 ghost use Rattle.state.specs.View.{viewOf};
 ghost use Rattle.state.specs.Promise.{ReadyOf, MakesOf};
-ghost use Rattle.receive.specs.Arrivals.{frameOf, StowableOf};
+ghost use Rattle.judging.specs.Frames.{frameOf};
+ghost use Rattle.receive.specs.Arrivals.{StowableOf};
 
 // A frame that is stored takes the lowest unallocated number, and of that number's strip as many pages as it needs; the number goes to the end of RX.
 fn stowed(

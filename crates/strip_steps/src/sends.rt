@@ -1,13 +1,13 @@
-// A send finishes: the TX head is sent. What looks at no pages is called from `sending`.
+// A send finishes: the TX head is sent. What looks at no pages is called from `outcomes` and `sending`.
 use on_wire::OUTPUT_BYTES;
+use outcomes::Send;
+use outcomes::after_send;
+use outcomes::is_full;
+use outcomes::is_good;
+use outcomes::is_released;
+use outcomes::is_within;
 use sending::LEAST_COUNT;
-use sending::Send;
-use sending::after_send;
-use sending::is_full;
-use sending::is_good;
 use sending::is_past;
-use sending::is_released;
-use sending::is_within;
 use sets::Address;
 use sets::Packet;
 use state::Answer;
@@ -30,8 +30,9 @@ ghost use Rattle.rules.specs.Send as rules;
 ghost use Rattle.wellformed.specs.Layouts.{GoodLists};
 ghost use Rattle.state.specs.View.{word, queueIn, stripsFrom, viewOf};
 ghost use Rattle.state.specs.Promise.{SoundOf, ReadyOf};
-ghost use Rattle.sending.specs.Numbers.{sendOf};
-ghost use Rattle.sending.specs.Sends.{headSent, RetiresOf, CompletesOf, SendsOf};
+ghost use Rattle.outcomes.specs.Numbers.{sendOf};
+ghost use Rattle.outcomes.specs.Retired.{RetiresOf};
+ghost use Rattle.sending.specs.Sends.{headSent, CompletesOf, SendsOf};
 
 // The packet is released, or its number joins completion.
 fn retire(words: &mut [u16], counts: &mut [u32], queues: &mut [u8], packet: Packet, released: bool)

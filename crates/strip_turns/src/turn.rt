@@ -8,7 +8,7 @@ ghost use lib.ListN.{length, take};
 ghost use Rattle.rules.specs.Chip.{strips};
 ghost use Rattle.rules.specs.Bench as rules;
 ghost use Rattle.rules.specs.Step as steps;
-ghost use Rattle.receive.specs.Arrivals.{frameOf};
+ghost use Rattle.judging.specs.Frames.{frameOf};
 ghost use Rattle.records.specs.Gathers.{holding};
 ghost use Rattle.state.specs.View.{viewOf};
 ghost use Rattle.state.specs.Entry.{RightOf};

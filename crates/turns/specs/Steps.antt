@@ -11,7 +11,7 @@ use Rattle.rules.specs.Registers.{Access}
 use Rattle.rules.specs.Send.{Send}
 use Rattle.rules.specs.Step.{driver, frame, sent, link, step}
 use Rattle.rules.specs.Bench as rules
-use Rattle.receive.specs.Arrivals.{frameOf}
+use Rattle.judging.specs.Frames.{frameOf}
 use Rattle.state.specs.declared.Answer.{Answer}
 use Rattle.state.specs.declared.Answer.the-variants.{OutsideLimits, CutShort}
 use Rattle.state.specs.View.{viewOf}

@@ -11,8 +11,9 @@ use Rattle.state.specs.declared.Answer.{Answer}
 use Rattle.state.specs.declared.Answer.the-variants.{Done}
 use Rattle.state.specs.View.{Kept}
 use Rattle.state.specs.Promise.{Does}
-use Rattle.receive.specs.declared.Verdict.{Verdict}
-use Rattle.receive.specs.Arrivals.{arrivalOf, isStored, turnedAway}
+use Rattle.judging.specs.declared.Verdict.{Verdict}
+use Rattle.judging.specs.Verdicts.{arrivalOf}
+use Rattle.receive.specs.Arrivals.{isStored, turnedAway}
 use Rattle.receive.proofs.turned_away.Statement.{statement}
 use Rattle.receive.proofs.turned_away.Tie as tie
 

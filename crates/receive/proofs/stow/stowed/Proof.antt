@@ -14,7 +14,8 @@ use Rattle.sets.specs.Views.{pagesOf}
 use Rattle.state.specs.View.{registersIn}
 use Rattle.pool.specs.Queues.{rejoins-chip, rejoins-sound}
 use Rattle.pool.specs.Pages.{repages-queues, repages-chip}
-use Rattle.receive.specs.Storing.{data-by, needed-by, judged-good, data-less, may-join, is-stowed}
+use Rattle.judging.specs.Frames.{data-by, needed-by}
+use Rattle.receive.specs.Storing.{judged-good, data-less, may-join, is-stowed}
 use Rattle.receive.specs.Storing as storable
 use Rattle.receive.proofs.Storing as storing
 use Rattle.receive.proofs.stow.stowed.Statement.{statement}

@@ -18,7 +18,7 @@ use Rattle.sets.specs.Views.{pagesOf}
 use Rattle.packet.specs.Room.{Room}
 use Rattle.state.specs.View.{word, registersIn, view}
 use Rattle.pool.specs.Queues.{head-told}
-use Rattle.sending.specs.Numbers.{sendOf}
+use Rattle.outcomes.specs.Numbers.{sendOf}
 use Rattle.sending.specs.After.{refuses, refuses-with, sends-as}
 use Rattle.sending.proofs.Head.{pages-few, room}
 use Rattle.sending.specs.Laws.{Usable, odd-count, short-count, long-count, completion-full, finishes, sends-all}

@@ -4,7 +4,8 @@ use mathlib.Core.Path.{_∙_, sym}
 use borrow.Author.Tests.{not-true, not-false}
 use Rattle.rules.specs.Receive.{Frame}
 use Rattle.state.specs.declared.Answer.the-variants.{OutsideLimits}
-use Rattle.receive.specs.Arrivals.{frameOf, StowableOf}
+use Rattle.judging.specs.Frames.{frameOf}
+use Rattle.receive.specs.Arrivals.{StowableOf}
 use Rattle.receive.specs.Arrives.{refuses, stays, away, kept, stowable}
 use Rattle.rules.specs.Chip.{strips}
 use Rattle.strip_steps.proofs.arrivals.arrived.Statement.{statement}

@@ -2,7 +2,7 @@
 use borrow.Author.Needs.{needs}
 use Rattle.pool.specs.Queues.{rejoins-chip, rejoins-sound}
 use Rattle.rules.specs.Chip.{strips}
-use Rattle.sending.specs.After.{gives-back}
+use Rattle.outcomes.specs.Retired.{gives-back}
 use Rattle.strip_steps.proofs.sends.retire.Statement.{statement}
 use Rattle.strip_steps.proofs.sends.retire.Tie as tie
 

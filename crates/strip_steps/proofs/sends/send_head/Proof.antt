@@ -17,7 +17,7 @@ use Rattle.rules.specs.Send.{byteCount, good, autoRelease, noPlace}
 use Rattle.lists.specs.Bytes.{value-word}
 use Rattle.state.specs.View.{word, registersIn, stripsFrom, viewOf}
 use Rattle.pool.specs.Queues.{head-told}
-use Rattle.sending.specs.Numbers.{sendOf}
+use Rattle.outcomes.specs.Numbers.{sendOf}
 use Rattle.sending.specs.After.{refuses, refuses-with, sends-as}
 use Rattle.sending.specs.Laws.{Usable, odd-count, short-count, long-count, completion-full, finishes, sends-all}
 use Rattle.strip_bytes.specs.Strip.{InStrip}

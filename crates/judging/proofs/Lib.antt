@@ -1,0 +1,3 @@
+-- What the proofs of a judgement share.
+pub mod Places
+pub mod Facts
