@@ -21,7 +21,7 @@ use Rattle.state.specs.declared.Answer.{Answer}
 use Rattle.state.specs.Meaning.{replyOf}
 use Rattle.state.specs.View.{word, registersIn, figures, queueIn, listsOf, viewOf}
 use Rattle.state.specs.Promise.{QueuesIn, SoundOf, ReadyOf}
-use Rattle.pool.specs.Pages.{AltersOf, alters-sound}
+use Rattle.pages.specs.Pages.{AltersOf, alters-sound}
 use Rattle.sending.specs.Sends.{SendsOf, headGone, Sent, RetiresOf, CompletesOf}
 
 -- What is known of the state once the registers are set and the head has left TX.

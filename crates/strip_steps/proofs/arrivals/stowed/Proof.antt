@@ -13,7 +13,7 @@ use Rattle.wellformed.specs.Parts.{part-few}
 use Rattle.wellformed.specs.Pool.{good-lists}
 use Rattle.state.specs.View.{registersIn}
 use Rattle.pool.specs.Queues.{rejoins-chip, rejoins-sound}
-use Rattle.pool.specs.Pages.{repages-queues, repages-chip}
+use Rattle.pages.specs.Pages.{repages-queues, repages-chip}
 use Rattle.receive.specs.Storing.{data-by, needed-by, judged-good, data-less, some-needed, few-needed, enough, may-join, is-stowed}
 use Rattle.receive.specs.Storing as storable
 use Rattle.strip_steps.proofs.Storing.{in-strip, written}

@@ -2,8 +2,8 @@
 use native.Mathlib.Omega.{arith}
 use borrow.Author.Needs.{needs}
 use Rattle.rules.specs.Bits.{highByte}
-use Rattle.pool.proofs.pages.free_count.Statement.{statement}
-use Rattle.pool.proofs.pages.free_count.Tie as tie
+use Rattle.pages.proofs.pages.free_count.Statement.{statement}
+use Rattle.pages.proofs.pages.free_count.Tie as tie
 
 returns : tie.Need-returns
 unfolding highByte

@@ -5,8 +5,8 @@ use Rattle.rules.specs.Bits.{lowByte, wordOf}
 use Rattle.state.specs.Promise.{sets-both}
 use Rattle.state.specs.Stores.{store-result, store-waiting}
 use borrow.Author.Needs.{needs}
-use Rattle.pool.proofs.requests.give_result.Statement.{statement}
-use Rattle.pool.proofs.requests.give_result.Tie as tie
+use Rattle.pages.proofs.requests.give_result.Statement.{statement}
+use Rattle.pages.proofs.requests.give_result.Tie as tie
 
 returns : tie.Need-returns
 unfolding lowByte wordOf

@@ -13,10 +13,10 @@ use Rattle.wellformed.specs.Parts.{part-few}
 use Rattle.sets.specs.Views.{pagesOf}
 use Rattle.sets.specs.Lists.{lists-length}
 use Rattle.state.specs.View.{view}
-use Rattle.pool.specs.Pages.{Grantable, repages-alters, alters-sets, alters-as}
-use Rattle.pool.proofs.Paged.{grantable}
-use Rattle.pool.proofs.requests.allocate.Statement.{statement}
-use Rattle.pool.proofs.requests.allocate.Tie as tie
+use Rattle.pages.specs.Pages.{Grantable, repages-alters, alters-sets, alters-as}
+use Rattle.pages.proofs.Paged.{grantable}
+use Rattle.pages.proofs.requests.allocate.Statement.{statement}
+use Rattle.pages.proofs.requests.allocate.Tie as tie
 
 may : (s : tie.Start) → let ls = map pagesOf (s .args .sets .now) in Grantable (firstEmpty ls) (s .args .need) ls
 may s = grantable (map pagesOf (s .args .sets .now)) (s .args .need) (subst (λ (n : ℕ). GoodPages n (map pagesOf (s .args .sets .now))) (sym (lists-length (s .args .sets .now))) (s .pre .2)) (s .pre .3) (s .pre .4) (s .pre .5)

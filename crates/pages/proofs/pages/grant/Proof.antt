@@ -16,10 +16,10 @@ use Rattle.sets.specs.Views.{pagesOf}
 use Rattle.sets.specs.Lists.{lists-length}
 use Rattle.state.specs.Pages.{free-sets}
 use Rattle.state.specs.Stores.{store-mir}
-use Rattle.pool.specs.Figures.{repaged}
-use Rattle.pool.proofs.Paged.{good-lists}
-use Rattle.pool.proofs.pages.grant.Statement.{statement}
-use Rattle.pool.proofs.pages.grant.Tie as tie
+use Rattle.pages.specs.Figures.{repaged}
+use Rattle.pages.proofs.Paged.{good-lists}
+use Rattle.pages.proofs.pages.grant.Statement.{statement}
+use Rattle.pages.proofs.pages.grant.Tie as tie
 
 fewer-requires : tie.Need-fewer-requires
 unfolding wordOf

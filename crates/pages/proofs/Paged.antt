@@ -9,7 +9,7 @@ use Rattle.rules.specs.Chip.{paged, freeFor}
 use Rattle.rules.specs.WellFormed.{GoodPages}
 use Rattle.wellformed.specs.Layouts.{GoodLists, unallocated}
 use Rattle.wellformed.specs.Pages.{first-empty}
-use Rattle.pool.specs.Pages.{Grantable}
+use Rattle.pages.specs.Pages.{Grantable}
 
 pub good-lists : (n : ℕ) (ls : List (List ℕ)) → length ls ≡ n → GoodPages n ls → GoodLists paged n ls
 good-lists n ls long good = record { count = long; pages = good; laid = tt }

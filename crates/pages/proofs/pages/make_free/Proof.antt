@@ -13,10 +13,10 @@ use Rattle.wellformed.specs.Layouts.{GoodLists, free-total, free-set, back-list
 use Rattle.sets.specs.Views.{pagesOf}
 use Rattle.sets.specs.Lists.{list-at, lists-length}
 use Rattle.state.specs.Stores.{store-mir}
-use Rattle.pool.specs.Figures.{repaged}
-use Rattle.pool.proofs.Paged.{good-lists}
-use Rattle.pool.proofs.pages.make_free.Statement.{statement}
-use Rattle.pool.proofs.pages.make_free.Tie as tie
+use Rattle.pages.specs.Figures.{repaged}
+use Rattle.pages.proofs.Paged.{good-lists}
+use Rattle.pages.proofs.pages.make_free.Statement.{statement}
+use Rattle.pages.proofs.pages.make_free.Tie as tie
 
 lists : (s : List ℕ) → GoodPages (length s) (map pagesOf s) → GoodLists paged (length s) (map pagesOf s)
 lists s = good-lists (length s) (map pagesOf s) (lists-length s)

@@ -15,7 +15,7 @@ ghost use Rattle.rules.specs.WellFormed.{GoodPages};
 ghost use Rattle.sets.specs.Views.{pagesOf};
 ghost use Rattle.state.specs.View.{word, figures, Kept};
 ghost use Rattle.state.specs.Promise.{Sets, SetsIn};
-ghost use Rattle.pool.specs.Pages.{Alters};
+ghost use Rattle.pages.specs.Pages.{Alters};
 
 // The allocation result is such, and so many pages are waited for.
 pub fn give_result(words: &mut [u16], result: u8, waiting: u16)

@@ -10,7 +10,7 @@ ghost use Rattle.rules.specs.WellFormed.{GoodPages};
 ghost use Rattle.sets.specs.Views.{pagesOf};
 ghost use Rattle.state.specs.View.{word, figures, Kept};
 ghost use Rattle.state.specs.Promise.{SetsIn};
-ghost use Rattle.pool.specs.Pages.{Grantable, Repages};
+ghost use Rattle.pages.specs.Pages.{Grantable, Repages};
 
 // How many pages are free: MIR's high byte (`free-told`: as many as a count gives).
 pub fn free_count(words: &[u16]) -> u32

@@ -10,9 +10,9 @@ use Rattle.wellformed.specs.Settle.{settle-none, settle-later, settle-now}
 use Rattle.sets.specs.Views.{pagesOf}
 use Rattle.sets.specs.Lists.{lists-length}
 use Rattle.state.specs.View.{word, view}
-use Rattle.pool.specs.Pages.{free-told, alters-as}
-use Rattle.pool.proofs.requests.settle.Statement.{statement}
-use Rattle.pool.proofs.requests.settle.Tie as tie
+use Rattle.pages.specs.Pages.{free-told, alters-as}
+use Rattle.pages.proofs.requests.settle.Statement.{statement}
+use Rattle.pages.proofs.requests.settle.Tie as tie
 
 -- the free pages that the words count are those of the chip
 counted : (s : tie.Start) → let ls = map pagesOf (s .args .sets .now) in word (s .args .words .now) 4 / 256 ≡ length (freeFor paged ls)

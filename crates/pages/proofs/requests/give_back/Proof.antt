@@ -9,9 +9,9 @@ use Rattle.rules.specs.WellFormed.{GoodPages}
 use Rattle.wellformed.specs.Pages.{back-good}
 use Rattle.sets.specs.Views.{pagesOf}
 use Rattle.sets.specs.Lists.{lists-length}
-use Rattle.pool.specs.Pages.{repages-size, repages-alters, alters-both}
-use Rattle.pool.proofs.requests.give_back.Statement.{statement}
-use Rattle.pool.proofs.requests.give_back.Tie as tie
+use Rattle.pages.specs.Pages.{repages-size, repages-alters, alters-both}
+use Rattle.pages.proofs.requests.give_back.Statement.{statement}
+use Rattle.pages.proofs.requests.give_back.Tie as tie
 
 settle-requires : tie.Need-settle-requires
 settle-requires c κs =
