@@ -62,7 +62,7 @@ pub fn read_register(words: &[u16], queues: &[u8], at: usize, width: Width, offs
     match at {
         MIR => gives(width, offset, words[MIR]),
         HEADS => gives(width, offset, registers::heads(words, queues)),
-        INTERRUPT => gives(width, offset, registers::interrupt(words)),
+        INTERRUPT => gives(width, offset, interrupts::interrupt(words)),
         EPHSR => gives(width, offset, registers::ephsr(words)),
         // the bank, at offset E of every bank
         7 | 15 | 23 | 31 | 39 | 47 | 55 | 63 => gives(width, offset, words[BANK]),

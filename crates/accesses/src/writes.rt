@@ -71,7 +71,7 @@ pub fn write_register(
         RESERVED => registers::write_reserved(words, width, offset, value),
         CONTROL => registers::write_control(words, width, offset, value),
         PACKET => registers::write_packet(words, width, offset, value),
-        INTERRUPT => registers::write_interrupt(words, queues, width, offset, value),
+        INTERRUPT => interrupts::write_interrupt(words, queues, width, offset, value),
         7 | 15 | 23 | 31 | 39 | 47 | 55 | 63 => {
             registers::write_bank(words, width, offset, value)
         }
@@ -108,7 +108,7 @@ pub fn write(
     match at {
         DATA => {}
         DATA_1 => {}
-        RCR => return registers::write_rcr(words, sets, queues, width, offset, value),
+        RCR => return reset::write_rcr(words, sets, queues, width, offset, value),
         COMMAND => return write_command(words, sets, queues, width, offset, value),
         _ => return write_register(words, queues, at, width, offset, value),
     }

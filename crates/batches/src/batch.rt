@@ -48,7 +48,7 @@ pub fn lone_line(
     ensures fits { λ end. ⌜ end ≤ length (now (lines .entry)) ⌝ }
 {
     let counter = lines::counter_of(number);
-    let up = registers::line_up(words);
+    let up = interrupts::line_up(words);
     print(watching, lines, 0, counter, answer, false, up, out)
 }
 
@@ -98,7 +98,7 @@ pub fn answer_all(
         let bytes = &input[8 * k..8 * k + 8];
         let given = turns::answer(words, sets, queues, memory, wire, have, out, bytes);
         let sent = records::is_send(bytes);
-        let up = registers::line_up(words);
+        let up = interrupts::line_up(words);
         *end = print(watching, lines, *end, counter, given, sent, up, out);
         counter = lines::next(counter);
         k += 1;

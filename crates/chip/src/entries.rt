@@ -18,8 +18,8 @@ pub fn powered(words: &mut [u16], sets: &mut [u32], queues: &mut [u8], part: Par
     ensures { λ _. ⌜ StartedOf paged (packetsOf part) (Done 0) (now (words .exit)) (now (sets .exit)) (now (queues .exit)) ⌝ }
 {
     let n = state::packets_of(part);
-    registers::zeroed(words);
-    registers::reset_words(words);
+    reset::zeroed(words);
+    reset::reset_words(words);
     sets::cleared(sets);
     pool::reset(words, &mut sets[..n], queues);
 }
@@ -54,5 +54,5 @@ pub fn line(r: Registers, p: Pages, q: Queues) -> bool
     if !guard::well_formed(&words, &sets, &slots) {
         return false;
     }
-    registers::line_up(&words)
+    interrupts::line_up(&words)
 }

@@ -40,11 +40,11 @@ fn do_allocate(words: &mut [u16], sets: &mut [u32], need: u32) -> Answer
     requires { ⌜ (1 ≤ need) × (need ≤ 8) × Kept (now words) × SetsIn (figures (now words)) (now sets) × GoodPages (length (now sets)) (map pagesOf (now sets)) ⌝ }
     ensures { λ a. ⌜ ((q : List ℕ) → QueuesIn (figures (now (words .entry))) q → Performs (rules.allocate need) (now (words .entry)) (now (sets .entry)) q a (now (words .exit)) (now (sets .exit)) q) ⌝ }
 {
-    if need <= pool::free_count(words) {
-        pool::allocate(words, sets, need);
+    if need <= pages::free_count(words) {
+        pages::allocate(words, sets, need);
         return Answer::Done(0);
     }
-    pool::give_result(words, NO_PACKET, need as u16);
+    pages::give_result(words, NO_PACKET, need as u16);
     Answer::Done(0)
 }
 
@@ -53,7 +53,7 @@ fn do_reset(words: &mut [u16], sets: &mut [u32], queues: &mut [u8]) -> Answer
     ensures { λ a. ⌜ Performs rules.reset (now (words .entry)) (now (sets .entry)) (now (queues .entry)) a (now (words .exit)) (now (sets .exit)) (now (queues .exit)) ⌝ }
 {
     pool::reset(words, sets, queues);
-    pool::give_result(words, NO_PACKET, 0);
+    pages::give_result(words, NO_PACKET, 0);
     Answer::Done(0)
 }
 

@@ -40,7 +40,7 @@ pub fn do_release(words: &mut [u16], sets: &mut [u32]) -> Answer
     if pool::is_queued(words, packet) {
         return Answer::StillQueued;
     }
-    pool::give_back(words, sets, packet);
+    pages::give_back(words, sets, packet);
     Answer::Done(0)
 }
 

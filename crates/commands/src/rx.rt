@@ -28,6 +28,6 @@ pub fn do_remove_and_release(words: &mut [u16], sets: &mut [u32], queues: &mut [
         return Answer::RxEmpty;
     }
     let head = pool::leave_rx(words, queues);
-    pool::give_back(words, sets, head);
+    pages::give_back(words, sets, head);
     Answer::Done(0)
 }

@@ -51,7 +51,7 @@ fn is_full(words: &[u16], len: usize) -> bool
     ensures { λ b. ⌜ b ≡ ltb (word (now (words .entry)) 4 / 256) (needed (registersIn (now (words .entry))) len + word (now (words .entry)) 5 % 256) ⌝ }
 {
     let need = pages_for(data_length(words[RCR], len));
-    pool::free_count(words) < need + (words[RESERVED] % 256) as u32
+    pages::free_count(words) < need + (words[RESERVED] % 256) as u32
 }
 
 // By the words alone: MIR's high byte counts the free pages.

@@ -9,7 +9,7 @@ use Rattle.rules.specs.Send.{retire}
 use Rattle.state.specs.View.{figures, viewOf}
 use Rattle.state.specs.Promise.{QueuesIn, SoundOf}
 use Rattle.state.specs.Only.{one-state}
-use Rattle.pool.specs.Pages.{AltersOf, alters-sound}
+use Rattle.pages.specs.Pages.{AltersOf, alters-sound}
 
 -- packet k is released, or joins completion
 pub record RetiresOf (l : Layout) (released : Bool) (k : ℕ) (w s q w′ s′ q′ : List ℕ) : Type 0 where

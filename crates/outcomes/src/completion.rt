@@ -46,7 +46,7 @@ pub fn retire(
     ensures { λ _. ⌜ Retires released (packet .0) (now (words .entry)) (now (sets .entry)) (now (queues .entry)) (now (words .exit)) (now (sets .exit)) (now (queues .exit)) ⌝ }
 {
     if released {
-        pool::give_back(words, sets, packet);
+        pages::give_back(words, sets, packet);
         return;
     }
     pool::join_completion(words, queues, packet);

@@ -1,5 +1,4 @@
--- Changes of the queues and of the page sets.
+-- Changes of the queues, and the pool emptied.
 pub mod Queues
-pub mod Pages
 pub mod Figures
 pub mod Once

@@ -1,18 +1,15 @@
--- Of each change of the pool there is one result: two that meet its promise are equal.
+-- Of each change of the queues, and of the pool emptied, there is one result: two that meet its promise are equal.
 use mathlib.Core.Path.{_≡_, ap, ap₂, sym, _∙_}
 use mathlib.Core.List.{List, [], _∷_, _++_}
 use Prim.Native.Nat.{ℕ, _/_, _%_}
 use lib.ListN.{length}
-use Rattle.rules.specs.Bits.{wordOf}
-use Rattle.rules.specs.Chip.{Registers, Layout, paged, Pool, Chip, freeFor}
+use Rattle.rules.specs.Chip.{Registers, Layout, paged, Pool, Chip}
 use Rattle.sets.specs.Members.{setOf}
-use Rattle.state.specs.View.{word, figures, withMir, listsOf, poolOf, viewOf}
+use Rattle.state.specs.View.{word, figures, poolOf}
 use Rattle.state.specs.Promise.{QueuesIn}
-use Rattle.state.specs.Pages.{numbers-length}
 use Rattle.state.specs.Stores.{Recounts}
-use Rattle.state.specs.Only.{words-once, numbers-known, padded, queues-known, one-state}
+use Rattle.state.specs.Only.{words-once, padded, queues-known, one-state}
 use Rattle.pool.specs.Queues.{Rejoins, EmptiedOf}
-use Rattle.pool.specs.Pages.{RepagesOf, AltersOf}
 
 -- Figures that are right for queues, and the queues' bytes, are known from the pool and MIR.
 module _ (w₁ q₁ w₂ q₂ : List ℕ) (x : QueuesIn (figures w₁) q₁) (y : QueuesIn (figures w₂) q₂) (mir : word w₁ 4 ≡ word w₂ 4) (e : poolOf paged (figures w₁) [] q₁ ≡ poolOf paged (figures w₂) [] q₂) where
@@ -46,38 +43,6 @@ module _ {f : Pool → Pool} {w q w₁ q₁ w₂ q₂ : List ℕ} (a : Rejoins f
 -- the words, where figures are stored
 pub recounts-once : {c w w₁ w₂ : List ℕ} → Recounts c w w₁ → Recounts c w w₂ → w₁ ≡ w₂
 recounts-once a b = words-once (a .kept) (b .kept) (a .regs ∙ sym (b .regs)) (a .counted ∙ sym (b .counted))
-
--- MIR, where the pages are the same
-counted-once : (l : Layout) (s₁ s₂ : List ℕ) {x y : ℕ} → listsOf l s₁ ≡ listsOf l s₂ → x ≡ wordOf (length s₁) (length (freeFor l (listsOf l s₁))) → y ≡ wordOf (length s₂) (length (freeFor l (listsOf l s₂))) → x ≡ y
-counted-once l s₁ s₂ e f g =
-    f ∙ ap₂ (λ (n : ℕ) (ls : List (List ℕ)). wordOf n (length (freeFor l ls))) (sym (numbers-length l s₁) ∙ ap length e ∙ numbers-length l s₂) e ∙ sym g
-
--- the words and the page sets
-module _ {l : Layout} {f : List (List ℕ) → List (List ℕ)} {w s w₁ s₁ w₂ s₂ : List ℕ} (a : RepagesOf l f w s w₁ s₁) (b : RepagesOf l f w s w₂ s₂) where
-  same-pages : listsOf l s₁ ≡ listsOf l s₂
-  same-pages = a .pages ∙ sym (b .pages)
-
-  mir : word w₁ 4 ≡ word w₂ 4
-  mir = counted-once l s₁ s₂ same-pages (a .sets .free) (b .sets .free)
-
-  pub repages-once : (w₁ ≡ w₂) × (s₁ ≡ s₂)
-  repages-once = (
-    words-once (a .kept) (b .kept) (a .regs ∙ sym (b .regs)) (a .still ∙ ap (λ (x : ℕ). withMir x (figures w)) mir ∙ sym (b .still)),
-    numbers-known l s₁ s₂ (a .sets .small) (b .sets .small) same-pages,
-  )
-
--- the words, registers among them, and the page sets
-module _ {l : Layout} {f : Chip → Chip} {w s w₁ s₁ w₂ s₂ : List ℕ} (a : AltersOf l f w s w₁ s₁) (b : AltersOf l f w s w₂ s₂) where
-  same-chip : viewOf l w₁ s₁ [] [] ≡ viewOf l w₂ s₂ [] []
-  same-chip = a .chip [] [] ∙ sym (b .chip [] [])
-
-  pub alters-once : (w₁ ≡ w₂) × (s₁ ≡ s₂)
-  alters-once =
-      let pages = ap (λ (c : Chip). c .pool .pages) same-chip in
-      let mir = counted-once l s₁ s₂ pages (a .sets .free) (b .sets .free) in (
-        words-once (a .kept) (b .kept) (ap (λ (c : Chip). c .regs) same-chip) (a .still ∙ ap (λ (x : ℕ). withMir x (figures w)) mir ∙ sym (b .still)),
-        numbers-known l s₁ s₂ (a .sets .small) (b .sets .small) pages,
-      )
 
 -- all three
 pub emptied-once : {l : Layout} {n : ℕ} {w w₁ s₁ q₁ w₂ s₂ q₂ : List ℕ} → EmptiedOf l n w w₁ s₁ q₁ → EmptiedOf l n w w₂ s₂ q₂ → (w₁ ≡ w₂) × (s₁ ≡ s₂) × (q₁ ≡ q₂)

@@ -1,22 +1,13 @@
-// Who is in which queue, and which pages are free. Queues, page sets and the figures that the words keep of them change here alone (a soft reset zeroes the words before):
-// each figure in the one function that grants pages, gives them back, joins a queue or leaves it, and where a queue or all is emptied.
+// Who is in which queue. Queues and the figures that the words keep of them change here alone (a soft reset zeroes the words before):
+// each figure in the one function that joins a queue or leaves it, and where a queue or all, with the pages (`pages`), is emptied.
 mod figures; // figures.rt: what the words keep of RX and of TX
-mod pages; // pages.rt: pages granted and made free, and how many are free
-mod requests; // requests.rt: allocations, and pages given back
 
 use figures::rx_bits;
 pub use figures::store_none;
 use figures::store_rx;
 use figures::store_tx;
 use figures::tx_bits;
-pub use pages::fewer;
-pub use pages::free_count;
-pub use pages::grant;
-pub use pages::more;
 use queues::marks;
-pub use requests::allocate;
-pub use requests::give_back;
-pub use requests::give_result;
 use sets::Packet;
 use state::COMPLETION;
 use state::COMPLETION_COUNT;

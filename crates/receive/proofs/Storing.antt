@@ -17,7 +17,7 @@ use Rattle.sets.specs.Lists.{lists-length}
 use Rattle.packet.specs.Room.{Room, imageOf}
 use Rattle.packet.proofs.Facts.{room-of, image-is}
 use Rattle.state.specs.View.{registersIn}
-use Rattle.pool.specs.Pages.{Grantable}
+use Rattle.pages.specs.Pages.{Grantable}
 use Rattle.receive.specs.Arrivals.{Stowable}
 use Rattle.receive.specs.Storing.{need, number, number-small, enough, few-needed}
 

@@ -12,7 +12,7 @@ use Rattle.state.specs.declared.Answer.{Answer}
 use Rattle.state.specs.Meaning.{replyOf}
 use Rattle.state.specs.View.{word, registersIn, viewOf}
 use Rattle.state.specs.Promise.{ReadyOf, Does, MakesOf, does-makes}
-use Rattle.pool.specs.Pages.{free-told}
+use Rattle.pages.specs.Pages.{free-told}
 use Rattle.judging.specs.declared.Verdict.{Verdict}
 use Rattle.judging.specs.declared.Verdict.the-variants.{Stored}
 use Rattle.judging.specs.Verdicts.{arrivalOf}

@@ -20,7 +20,7 @@ use Rattle.wellformed.specs.Frames as frames
 use Rattle.wellformed.specs.Frames.{needs-one, needs-seven, data-short}
 use Rattle.state.specs.View.{word, registersIn, queueIn, listsOf, viewOf}
 use Rattle.pool.specs.Queues.{MayJoin, may-join-rx}
-use Rattle.pool.specs.Pages.{RepagesOf, free-told}
+use Rattle.pages.specs.Pages.{RepagesOf, free-told}
 use Rattle.receive.specs.Arrivals.{StowableOf}
 
 module _ {l : Layout} {w s q : List ℕ} {f : Frame} (t : StowableOf l w s q f) where

@@ -32,7 +32,7 @@ pub fn stowed(
     let n = data_length(words[RCR], frame.len());
     let status = status_of(words[CONTROL], frame, n, alignment);
     let number = Packet(sets::lowest_unallocated(sets) as u8);
-    let pages = pool::grant(words, sets, number, pages_for(n));
+    let pages = pages::grant(words, sets, number, pages_for(n));
     packet::store_frame(memory, pages, status, count_of(n), frame, n);
     pool::join_rx(words, queues, number);
     Answer::Done(0)

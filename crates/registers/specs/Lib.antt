@@ -1,4 +1,2 @@
--- What the steps of this crate promise beside what the lent state has words for, its words as the rules' reads, and power-up.
-pub mod Promises
+-- The words of MIR, of the heads and of interrupt status as the rules' reads.
 pub mod Reading
-pub mod Power

@@ -3,20 +3,10 @@ use state::Answer;
 use state::LINK;
 use state::flags;
 ghost use mathlib.Core.Path.{_≡_};
-ghost use Prim.Native.Nat.{_<_};
 ghost use lib.ListN.{length};
-ghost use Rattle.rules.specs.Bits.{bit};
 ghost use Rattle.rules.specs.Link as rules;
 ghost use Rattle.state.specs.View.{Kept};
 ghost use Rattle.state.specs.Promise.{Does};
-
-// Was a change of it seen, by its word?
-pub fn has_changed(link: u16) -> bool
-    requires { ⌜ link < 4 ⌝ }
-    ensures { λ b. ⌜ b ≡ bit 1 link ⌝ }
-{
-    1 < link
-}
 
 // The link is down (0) or up (1). The same state again is no change.
 pub fn plug(words: &mut [u16], up: u8) -> Answer

@@ -1,14 +1,10 @@
 // What a write leaves of a word.
-use state::Width;
 use state::flags;
 ghost use mathlib.Core.Path.{_≡_};
 ghost use mathlib.Core.Bool.{cond};
 ghost use Prim.Native.Nat.{_+_, _*_, _/_, _<_};
 ghost use Rattle.rules.specs.Bits.{bit};
 ghost use Rattle.rules.specs.Registers as rules;
-ghost use Rattle.state.specs.Meaning.{widthOf};
-ghost use Rattle.state.specs.View.{Latches};
-ghost use Rattle.registers.specs.Promises.{Acknowledged};
 
 // The high byte of the bank, and of the pages reserved for transmit, always reads 33h.
 pub const HIGH_33: u16 = 0x3300;
@@ -19,13 +15,6 @@ pub fn low_set(x: u16, low: u16) -> u16
     ensures { λ y. ⌜ y ≡ x / 256 * 256 + low ⌝ }
 {
     x / 256 * 256 + low
-}
-
-// A word without its low byte.
-pub fn high_only(x: u16) -> u16
-    ensures { λ y. ⌜ y ≡ x / 256 * 256 ⌝ }
-{
-    x / 256 * 256
 }
 
 // EPHSR without bits 15, 10, 9, 5, 4 and 0.
@@ -45,23 +34,4 @@ pub fn ephsr_after(tcr: u16, ephsr: u16) -> u16
         return forgotten(ephsr);
     }
     ephsr
-}
-
-// RX_ABORT is cleared by a write, never set.
-pub fn new_rcr(width: Width, offset: u8, value: u16, rcr: u16) -> u16
-    ensures { λ x. ⌜ x ≡ rules.newRcr (rules.lanesAt (widthOf width) offset) value rcr ⌝ }
-{
-    let x = state::merged(width, offset, value, rcr);
-    if bits::is_set(rcr, flags::RX_ABORT) {
-        return x;
-    }
-    bits::with_clear(x, flags::RX_ABORT)
-}
-
-// The latches after an acknowledge by the low byte of v.
-pub fn latches_after(latches: u16, v: u16) -> u16
-    requires { ⌜ Latches latches ⌝ }
-    ensures { λ x. ⌜ Acknowledged v latches x ⌝ }
-{
-    latches & (0xffff - v)
 }

@@ -38,5 +38,5 @@ pub extern "C" fn skarvoya_line(words: &[u16], sets: &[u32], queues: &[u8]) -> u
     if !ready(words, sets, queues) {
         return told(Answer::Damaged);
     }
-    if registers::line_up(words) { 1 } else { 0 }
+    if interrupts::line_up(words) { 1 } else { 0 }
 }

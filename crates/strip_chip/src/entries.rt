@@ -19,7 +19,7 @@ fn powered(words: &mut [u16], counts: &mut [u32], queues: &mut [u8], part: Part)
     ensures { λ _. ⌜ StartedOf strips (packetsOf part) (Done 0) (now (words .exit)) (now (counts .exit)) (now (queues .exit)) ⌝ }
 {
     let n = state::packets_of(part);
-    registers::reset_words(words);
+    reset::reset_words(words);
     strips::reset(words, &mut counts[..n], queues);
 }
 
@@ -53,5 +53,5 @@ pub fn line(r: Registers, p: Strips, q: Queues) -> bool
     if !strips::well_formed(&words, &counts, &slots) {
         return false;
     }
-    registers::line_up(&words)
+    interrupts::line_up(&words)
 }

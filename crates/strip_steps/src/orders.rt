@@ -22,11 +22,11 @@ fn do_allocate(words: &mut [u16], counts: &mut [u32], need: u32) -> Answer
     requires { ⌜ (1 ≤ need) × (need ≤ 8) × Kept (now words) × PagesIn strips (figures (now words)) (now counts) × GoodLists strips (length (now counts)) (stripsFrom 0 (now counts)) ⌝ }
     ensures { λ a. ⌜ ((q : List ℕ) → QueuesIn (figures (now (words .entry))) q → PerformsOf strips (rules.allocate need) (now (words .entry)) (now (counts .entry)) q a (now (words .exit)) (now (counts .exit)) q) ⌝ }
 {
-    if need <= pool::free_count(words) {
+    if need <= pages::free_count(words) {
         strips::allocate(words, counts, need);
         return Answer::Done(0);
     }
-    pool::give_result(words, NO_PACKET, need as u16);
+    pages::give_result(words, NO_PACKET, need as u16);
     Answer::Done(0)
 }
 
@@ -36,7 +36,7 @@ fn do_reset(words: &mut [u16], counts: &mut [u32], queues: &mut [u8]) -> Answer
     ensures { λ a. ⌜ PerformsOf strips rules.reset (now (words .entry)) (now (counts .entry)) (now (queues .entry)) a (now (words .exit)) (now (counts .exit)) (now (queues .exit)) ⌝ }
 {
     strips::reset(words, counts, queues);
-    pool::give_result(words, NO_PACKET, 0);
+    pages::give_result(words, NO_PACKET, 0);
     Answer::Done(0)
 }
 

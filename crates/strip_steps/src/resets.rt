@@ -1,6 +1,6 @@
 // The soft reset by RCR.
-use registers::new_rcr;
-use registers::reset_words;
+use reset::new_rcr;
+use reset::reset_words;
 use state::Answer;
 use state::RCR;
 use state::Width;
@@ -14,7 +14,7 @@ ghost use Rattle.rules.specs.Registers as rules;
 ghost use Rattle.state.specs.Meaning.{widthOf};
 ghost use Rattle.state.specs.View.{viewOf};
 ghost use Rattle.state.specs.Promise.{SoundOf, MakesOf};
-ghost use Rattle.registers.specs.Promises.{SoftResetsOf};
+ghost use Rattle.reset.specs.Promises.{SoftResetsOf};
 
 // All is reset but the station address and the memory.
 fn soft_reset(words: &mut [u16], counts: &mut [u32], queues: &mut [u8])

@@ -20,7 +20,7 @@ use Rattle.state.specs.Entry.{sizeIn, ofPart, HoldsOf}
 use Rattle.state.specs.Places.{places-told, names-part}
 use Rattle.state.specs.WellFormed.{RequestFormed}
 use Rattle.state.specs.Restated.{request-restated}
-use Rattle.pool.specs.Pages.{free-told}
+use Rattle.pages.specs.Pages.{free-told}
 use Rattle.guard.specs.Parts.{queues-alike, part-at}
 use Rattle.strips.specs.Counts.{GoodCounts, counts-lists, counts-free, lists-counts}
 

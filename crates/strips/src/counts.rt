@@ -1,8 +1,8 @@
 // How many pages each packet has: the first of its own strip, so that a number says all of them. How many are free is MIR's high byte.
-use pool::fewer;
-use pool::free_count;
-use pool::give_result;
-use pool::more;
+use pages::fewer;
+use pages::free_count;
+use pages::give_result;
+use pages::more;
 use pool::store_none;
 use sets::Packet;
 use state::MIR;
@@ -18,7 +18,7 @@ ghost use Rattle.rules.specs.Mmu as rules;
 ghost use Rattle.wellformed.specs.Layouts.{GoodLists};
 ghost use Rattle.state.specs.View.{word, figures, stripsFrom, Kept};
 ghost use Rattle.state.specs.Promise.{PagesIn};
-ghost use Rattle.pool.specs.Pages.{RepagesOf, AltersOf};
+ghost use Rattle.pages.specs.Pages.{RepagesOf, AltersOf};
 ghost use Rattle.pool.specs.Queues.{EmptiedOf};
 
 // How many pages the packet has: none where there is no such packet.

@@ -3,7 +3,7 @@ use guard::empty_from;
 use guard::queues_good;
 use guard::request_good;
 use guard::words_good;
-use pool::free_count;
+use pages::free_count;
 use state::MIR;
 use state::PACKET;
 use state::WAITING;

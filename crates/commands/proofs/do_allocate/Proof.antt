@@ -10,7 +10,7 @@ use Rattle.rules.specs.Mmu as rules
 use Rattle.sets.specs.Views.{pagesOf}
 use Rattle.state.specs.View.{view}
 use Rattle.state.specs.Promise.{sets-chip, sets-sound}
-use Rattle.pool.specs.Pages.{alters-sound, free-told}
+use Rattle.pages.specs.Pages.{alters-sound, free-told}
 use Rattle.commands.specs.Steps.{allocates, allocates-none}
 use Rattle.commands.specs.Returns.{performs}
 use Rattle.commands.proofs.do_allocate.Statement.{statement}

@@ -9,8 +9,8 @@ use Rattle.rules.specs.Parts.{IsPart}
 use Rattle.rules.specs.Chip.{paged}
 use Rattle.wellformed.specs.Parts.{part-few}
 use Rattle.pool.specs.Queues.{Emptied}
-use Rattle.registers.specs.Promises.{WordsReset}
-use Rattle.registers.specs.Power.{powers-up}
+use Rattle.reset.specs.Promises.{WordsReset}
+use Rattle.reset.specs.Power.{powers-up}
 use Rattle.state.specs.Meaning.{packetsOf}
 use Rattle.state.specs.Entry.{zeros}
 use Rattle.chip.specs.Rights.{is-a-part, zeros-behind, cleared-zeros, starts}

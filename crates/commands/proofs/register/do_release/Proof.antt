@@ -15,7 +15,7 @@ use Rattle.sets.specs.Views.{pagesOf}
 use Rattle.sets.specs.Lists.{lists-length}
 use Rattle.state.specs.View.{view}
 use Rattle.pool.specs.Queues.{queued-told}
-use Rattle.pool.specs.Pages.{alters-sound}
+use Rattle.pages.specs.Pages.{alters-sound}
 use Rattle.commands.specs.Steps.{releases}
 use Rattle.commands.specs.Returns.{performs, refuses-5, refuses-6, goes-ahead}
 use Rattle.wellformed.specs.Parts.{part-few}

@@ -10,7 +10,7 @@ use Rattle.rules.specs.Mmu as rules
 use Rattle.state.specs.declared.Answer.the-variants as answer
 use Rattle.state.specs.View.{word, queueIn, view}
 use Rattle.pool.specs.Queues.{rejoins-chip, rejoins-sets}
-use Rattle.pool.specs.Pages.{alters-sound, waits-few}
+use Rattle.pages.specs.Pages.{alters-sound, waits-few}
 use Rattle.commands.specs.Steps.{releases-none, releases-head, head-small}
 use Rattle.commands.specs.Returns.{performs, unchanged}
 use borrow.Author.Needs.{needs}

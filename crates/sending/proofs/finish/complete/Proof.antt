@@ -5,7 +5,7 @@ use mathlib.Core.List.{[]}
 use native.Mathlib.Omega.{arith}
 use Rattle.rules.specs.Chip.{paged, Chip}
 use Rattle.packet.proofs.Facts.{room-less}
-use Rattle.pool.specs.Pages.{waits-few}
+use Rattle.pages.specs.Pages.{waits-few}
 use Rattle.sending.specs.After.{same-completion, completes, head-small}
 use Rattle.sending.proofs.finish.complete.Statement.{statement}
 use Rattle.sending.proofs.finish.complete.Tie as tie

@@ -9,8 +9,8 @@ use lib.Seq.{length-take-le}
 use Rattle.rules.specs.Parts.{IsPart}
 use Rattle.rules.specs.Chip.{strips}
 use Rattle.wellformed.specs.Parts.{part-few}
-use Rattle.registers.specs.Promises.{WordsReset}
-use Rattle.registers.specs.Power.{powers-up}
+use Rattle.reset.specs.Promises.{WordsReset}
+use Rattle.reset.specs.Power.{powers-up}
 use Rattle.state.specs.declared.Answer.the-variants.{Done}
 use Rattle.state.specs.Meaning.{packetsOf}
 use Rattle.state.specs.Entry.{zeros, StartedOf}

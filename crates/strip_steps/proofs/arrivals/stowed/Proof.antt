@@ -13,7 +13,7 @@ use Rattle.wellformed.specs.Parts.{part-few}
 use Rattle.wellformed.specs.Pool.{good-lists}
 use Rattle.state.specs.View.{registersIn}
 use Rattle.pool.specs.Queues.{rejoins-chip, rejoins-sound}
-use Rattle.pool.specs.Pages.{repages-queues, repages-chip}
+use Rattle.pages.specs.Pages.{repages-queues, repages-chip}
 use Rattle.judging.specs.Frames.{data-by, needed-by}
 use Rattle.receive.specs.Storing.{judged-good, data-less, some-needed, few-needed, enough, may-join, is-stowed}
 use Rattle.receive.specs.Storing as storable

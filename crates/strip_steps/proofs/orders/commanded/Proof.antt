@@ -12,7 +12,7 @@ use Rattle.state.specs.declared.Answer.the-variants as answer
 use Rattle.state.specs.Promise.{ReadyOf}
 use Rattle.commands.specs.declared.Order.{Order}
 use Rattle.commands.specs.Orders.{commandOf, PerformsOf}
-use Rattle.pool.specs.Pages.{waits-few}
+use Rattle.pages.specs.Pages.{waits-few}
 use Rattle.commands.specs.Returns.{unchanged}
 use borrow.Author.Needs.{needs}
 use Rattle.strip_steps.proofs.orders.commanded.Statement.{statement}

@@ -7,7 +7,7 @@ use Rattle.rules.specs.Chip.{strips, freeFor}
 use Rattle.rules.specs.Mmu as rules
 use Rattle.state.specs.View.{stripsFrom, viewOf}
 use Rattle.state.specs.Promise.{sets-chip, sets-sound}
-use Rattle.pool.specs.Pages.{alters-sound, free-told}
+use Rattle.pages.specs.Pages.{alters-sound, free-told}
 use Rattle.commands.specs.Steps.{allocates, allocates-none}
 use Rattle.commands.specs.Returns.{performs}
 use Rattle.strip_steps.proofs.orders.do_allocate.Statement.{statement}

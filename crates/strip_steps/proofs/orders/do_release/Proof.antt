@@ -13,7 +13,7 @@ use Rattle.rules.specs.Mmu as rules
 use Rattle.wellformed.specs.Pool.{has-small}
 use Rattle.state.specs.View.{stripsFrom, viewOf}
 use Rattle.pool.specs.Queues.{queued-told}
-use Rattle.pool.specs.Pages.{alters-sound}
+use Rattle.pages.specs.Pages.{alters-sound}
 use Rattle.commands.specs.Steps.{releases}
 use Rattle.commands.specs.Returns.{performs, refuses-5, refuses-6, goes-ahead}
 use Rattle.wellformed.specs.Parts.{part-few}

@@ -11,7 +11,7 @@ use Rattle.wellformed.specs.Pool.{good-lists}
 use Rattle.state.specs.declared.Answer.the-variants as answer
 use Rattle.state.specs.View.{word, queueIn, viewOf}
 use Rattle.pool.specs.Queues.{rejoins-chip, rejoins-sets}
-use Rattle.pool.specs.Pages.{alters-sound, waits-few}
+use Rattle.pages.specs.Pages.{alters-sound, waits-few}
 use Rattle.commands.specs.Steps.{releases-none, releases-head, head-small}
 use Rattle.commands.specs.Returns.{performs, unchanged}
 use borrow.Author.Needs.{needs}

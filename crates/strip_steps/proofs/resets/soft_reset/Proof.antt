@@ -1,5 +1,5 @@
 -- The words, then the pool with its figures, then RCR.
-use Rattle.registers.specs.Power.{soft, soft-long}
+use Rattle.reset.specs.Power.{soft, soft-long}
 use borrow.Author.Needs.{needs}
 use Rattle.strip_steps.proofs.resets.soft_reset.Statement.{statement}
 use Rattle.strip_steps.proofs.resets.soft_reset.Tie as tie

@@ -2,7 +2,7 @@
 use mathlib.Core.Path.{refl, sym, _∙_}
 use Rattle.state.specs.Promise.{does-makes}
 use Rattle.state.specs.Writes.{writes-rcr}
-use Rattle.registers.specs.Power.{soft-size, rcr-resets}
+use Rattle.reset.specs.Power.{soft-size, rcr-resets}
 use borrow.Author.Needs.{needs}
 use Rattle.strip_steps.proofs.resets.write_rcr.Statement.{statement}
 use Rattle.strip_steps.proofs.resets.write_rcr.Tie as tie

@@ -9,7 +9,7 @@ use Rattle.rules.specs.Chip.{strips, Chip}
 use Rattle.rules.specs.Send.{addressBits}
 use Rattle.wellformed.specs.Pool.{good-lists}
 use Rattle.state.specs.View.{stripsFrom}
-use Rattle.pool.specs.Pages.{waits-few}
+use Rattle.pages.specs.Pages.{waits-few}
 use Rattle.sending.specs.After.{same-completion, completes, head-small}
 use Rattle.strip_steps.specs.Data.{in-strip, strip-reads, strip-writes}
 use Rattle.strip_steps.specs.Sends.{strip-few}

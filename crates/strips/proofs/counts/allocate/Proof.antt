@@ -7,7 +7,7 @@ use Rattle.rules.specs.Chip.{strips, freeFor}
 use Rattle.rules.specs.Fields.{setResult, setWaiting, setPages, inRegisters, inPool}
 use Rattle.wellformed.specs.Parts.{part-few}
 use Rattle.state.specs.View.{stripsFrom, viewOf}
-use Rattle.pool.specs.Pages.{repages-alters, alters-sets, alters-as}
+use Rattle.pages.specs.Pages.{repages-alters, alters-sets, alters-as}
 use Rattle.strips.proofs.counts.allocate.Statement.{statement}
 use Rattle.strips.proofs.counts.allocate.Tie as tie
 

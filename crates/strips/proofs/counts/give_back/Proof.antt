@@ -7,7 +7,7 @@ use lib.ListN.{length, length-set}
 use Rattle.rules.specs.Chip.{Registers, strips}
 use Rattle.wellformed.specs.Layouts.{back-lists}
 use Rattle.state.specs.View.{stripsFrom}
-use Rattle.pool.specs.Pages.{repages-size, repages-alters, alters-both}
+use Rattle.pages.specs.Pages.{repages-size, repages-alters, alters-both}
 use Rattle.strips.proofs.counts.give_back.Statement.{statement}
 use Rattle.strips.proofs.counts.give_back.Tie as tie
 

@@ -15,7 +15,7 @@ use Rattle.wellformed.specs.Pages.{first-empty}
 use Rattle.state.specs.View.{stripsFrom}
 use Rattle.state.specs.Pages.{strips-set}
 use Rattle.state.specs.Stores.{store-mir}
-use Rattle.pool.specs.Figures.{repaged}
+use Rattle.pages.specs.Figures.{repaged}
 use Rattle.strips.specs.Counts.{counts-small}
 use Rattle.strips.proofs.counts.grant.Statement.{statement}
 use Rattle.strips.proofs.counts.grant.Tie as tie

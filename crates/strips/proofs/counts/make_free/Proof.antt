@@ -13,7 +13,7 @@ use Rattle.wellformed.specs.Layouts.{GoodLists, free-total, free-set, back-list
 use Rattle.state.specs.View.{stripsFrom}
 use Rattle.state.specs.Pages.{strips-set}
 use Rattle.state.specs.Stores.{store-mir}
-use Rattle.pool.specs.Figures.{repaged}
+use Rattle.pages.specs.Figures.{repaged}
 use Rattle.strips.specs.Counts.{counts-small}
 use Rattle.strips.proofs.counts.make_free.Statement.{statement}
 use Rattle.strips.proofs.counts.make_free.Tie as tie

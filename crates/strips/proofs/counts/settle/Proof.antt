@@ -7,7 +7,7 @@ use lib.ListN.{length}
 use Rattle.rules.specs.Chip.{strips, freeFor}
 use Rattle.wellformed.specs.Settle.{settle-none, settle-later, settle-now}
 use Rattle.state.specs.View.{word, stripsFrom, viewOf}
-use Rattle.pool.specs.Pages.{free-told, alters-as}
+use Rattle.pages.specs.Pages.{free-told, alters-as}
 use Rattle.strips.proofs.counts.settle.Statement.{statement}
 use Rattle.strips.proofs.counts.settle.Tie as tie
 

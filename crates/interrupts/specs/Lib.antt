@@ -1,0 +1,2 @@
+-- What an acknowledge promises.
+pub mod Promises

@@ -1,0 +1,4 @@
+-- Changes of the page sets.
+pub mod Pages
+pub mod Figures
+pub mod Once

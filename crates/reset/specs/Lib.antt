@@ -1,0 +1,3 @@
+-- What a reset promises, and power-up.
+pub mod Promises
+pub mod Power
