@@ -3,7 +3,7 @@ use mathlib.Core.Path.{_≡_, refl, sym, subst, _∙_}
 use mathlib.Core.Bool.{Bool, true, false, cond, not}
 use mathlib.Core.List.{List, [], _∷_}
 use Prim.Native.Nat.{ℕ}
-use lib.Dec.{eqb, leb, ltb}
+use lib.Dec.{eqb, ltb}
 use lib.ListN.{length, take}
 use Rattle.rules.specs.Bits.{bit, lowByte, highByte}
 use Rattle.rules.specs.Lists.{some?}
@@ -11,17 +11,18 @@ use Rattle.rules.specs.Chip.{Chip, pagesAt, allocated, free}
 use Rattle.rules.specs.Fields.{setTx, inRegisters, inPool, inMemory}
 use Rattle.rules.specs.Answers.{Effect, Turn, did, refuse}
 use Rattle.rules.specs.Packet.{getBytes, putBytes}
-use Rattle.rules.specs.Mmu.{Command, nothing, allocate, reset, removeRx, removeAndRelease, release, enqueue, resetTx, unknown, decode, settle, freed, ifHead, perform}
-use Rattle.rules.specs.Data.{rcv, address, ifPacket, ifOpen, moved, readData, writeData}
-use Rattle.rules.specs.Registers.{Lanes, low, high, both, Register, TCR, EPHSR, RCR, ECR, MIR, RESERVED, STATION, CONTROL, COMMAND, PACKET, HEADS, POINTER, DATA, INTERRUPT, TABLE, BANK, UNUSED, ABSENT, width, bytesOf, headOf, newRcr, writeRcr, writeInterrupt, readRegister, writeRegister, registerAt, misplaced, lanesAt, Access, read, write, access}
+use Rattle.rules.specs.Mmu.{decode, freed, ifHead}
+use Rattle.rules.specs.Data.{rcv, address, ifPacket, ifOpen, moved, writeData}
+use Rattle.rules.specs.Registers.{Lanes, low, high, both, Register, TCR, EPHSR, RCR, ECR, MIR, RESERVED, STATION, CONTROL, COMMAND, PACKET, HEADS, POINTER, DATA, INTERRUPT, TABLE, BANK, UNUSED, ABSENT, width, bytesOf, headOf, newRcr, writeRcr, readRegister, writeRegister, registerAt, misplaced, lanesAt, Access, read, write, access}
 use Rattle.rules.specs.Receive.{Frame, Arrival, stored, disabled, notAccepted, tooLong, bad, noRoom, dataLength, needed, image, after, verdict, arrive}
 use Rattle.rules.specs.Send.{Send, good, sentRegisters, autoRelease, retire, statusWord, statusWritten, sendHead, finish}
 use Rattle.rules.specs.Link.{plug}
 use Rattle.rules.specs.Step.{Input, driver, frame, sent, link, serve, stepOf}
 use Rattle.rules.specs.Tests.{fit}
-use Rattle.wellformed.specs.Cases.{pick, by-settle, by-head, by-idle, by-packet, by-tests, by-lanes, by-read, by-plug, by-send}
+use Rattle.wellformed.specs.Cases.{pick, by-settle, by-tests, by-lanes, by-read, by-plug, by-send}
 use Rattle.laws.specs.Head.{headPages}
 use Rattle.laws.specs.DataAccesses.{meant, dataIn}
+use Rattle.laws.specs.Untouched.{performs, reads-data, writes-interrupt}
 
 -- bytes, from which packet address on, and into which pages
 pub record Put : Type 0 where
@@ -75,27 +76,8 @@ module _ (c : Chip) where
   abbrev Kept : Effect → Type 0
   Kept e = e .chip .memory ≡ c .memory
 
-  settled : (d : Chip) → d .memory ≡ c .memory → settle d .memory ≡ c .memory
-  settled d h = by-settle (λ (x : Chip). x .memory ≡ c .memory) d (λ e. h) (λ e. h)
-
-  performs : (k : Command) → Kept (perform k c)
-  unfolding perform
-  performs nothing = refl
-  performs (allocate m) = pick Kept (leb m (length (free c))) refl refl
-  performs reset = refl
-  performs removeRx = by-head c Kept _ (c .pool .rx) refl (λ k ks e. refl)
-  performs removeAndRelease = by-head c Kept _ (c .pool .rx) refl (λ k ks e. settled _ refl)
-  performs release = by-idle c Kept _ refl refl (λ a r t. settled _ refl)
-  performs enqueue = by-idle c Kept _ refl refl (λ a r t. refl)
-  performs resetTx = refl
-  performs unknown = refl
-
-  reads-data : (wide : ℕ) → Kept (readData wide c)
-  unfolding readData
-  reads-data wide = by-packet c Kept _ refl refl (λ pages. by-tests c Kept true wide pages _ refl refl refl refl)
-
   reads : (r : Register) (p : Lanes) → Kept (readRegister r p c)
-  reads r p = by-read c Kept refl (λ v. refl) (λ v. refl) reads-data r p
+  reads r p = by-read c Kept refl (λ v. refl) (λ v. refl) (λ w. reads-data c w .2) r p
 
   -- these bytes are put into these pages where the pointer says, if the access is done
   record PutsAt (pages bytes : List ℕ) (e : Effect) : Type 0 where
@@ -125,12 +107,6 @@ module _ (c : Chip) where
   unfolding putBytes
   kept-puts {e} h = record { is = h ∙ sym (pick (λ (m : List ℕ). m ≡ c .memory) (eqb (e .reply .number) 0) refl refl) }
 
-  writes-interrupt : (p : Lanes) (v : ℕ) → writeInterrupt p v c .memory ≡ c .memory
-  unfolding writeInterrupt
-  writes-interrupt low v = refl
-  writes-interrupt high v = refl
-  writes-interrupt both v = refl
-
   writes-rcr : (x : ℕ) → writeRcr x c .memory ≡ c .memory
   unfolding writeRcr
   writes-rcr x = pick (λ (d : Chip). d .memory ≡ c .memory) (bit 15 x) refl refl
@@ -151,12 +127,12 @@ module _ (c : Chip) where
   writes RESERVED p v = kept-puts (by-lanes c Kept p _ refl refl)
   writes (STATION k) p v = kept-puts refl
   writes CONTROL p v = kept-puts refl
-  writes COMMAND p v = kept-puts (by-lanes c Kept p _ refl (performs (decode (lowByte v))))
+  writes COMMAND p v = kept-puts (by-lanes c Kept p _ refl (performs c (decode (lowByte v)) .2))
   writes PACKET p v = kept-puts (by-lanes c Kept p _ refl refl)
   writes HEADS p v = kept-puts refl
   writes POINTER p v = kept-puts refl
   writes DATA p v = subst (λ (bytes : List ℕ). Puts bytes (writeData (bytesOf p v) c)) (sym (all-taken p v)) (writes-data (bytesOf p v))
-  writes INTERRUPT p v = kept-puts (writes-interrupt p v)
+  writes INTERRUPT p v = kept-puts (writes-interrupt c p v .2)
   writes (TABLE k) p v = kept-puts refl
   writes BANK p v = kept-puts (by-lanes c Kept p _ refl refl)
   writes UNUSED p v = kept-puts refl

@@ -18,30 +18,31 @@ use Rattle.rules.specs.Receive.{Frame, sameBytes, badCrc, broadcast, group, inT
 use Rattle.rules.specs.Send.{inLimits, byteCount, sendLength, appends, padded, ended, onWire, controlByte, putOut, good, failureBit, collisionBits, outcomeBits, addressBits, nibble, counted, tally, nibbles, anyAt15, newEcr, newEphsr, autoRelease, sendHead, ifUsable, ifSendable, finish}
 use Rattle.rules.specs.Step.{Input, driver, frame, serve, stepOf, runOf}
 use Rattle.laws.specs.Head.{headPages, headCount}
-use Rattle.blind_laws.specs.Private.{nonePrivate, notedAll, privateAfter, privateBy}
-use Rattle.blind_needed.specs.BlindNeeded.{plain, counted12, shortened, sentOn, queued}
+use Rattle.blind_laws.specs.Private.{Private, nonePrivate, notedAll, privateAfter, privateBy}
+use Rattle.blind_needed.specs.BlindNeeded.{ranFrom, plain, counted12, shortened, sentOn, queued}
 
--- of the TX head after these inputs, which of bytes 2 to 9 are private, and whether its control byte is
-unfoldable pub headPrivate : ℕ → List Input → List Bool
-unfolding bit setBit clearBit flag lowByte highByte wordOf wordAt member some? owned unless freeBelow firstEmpty above ascends allBelow apart noneOwned pagesGood laidGood queueGood queuesGood numbersGood requestGood formed fit place getBytes putBytes decode perform due settle address advance next ifPacket against oddFixed past ifOpen valueOf readData writeData registerAt misplaced lanesAt taken merged width bytesOf forgotten writeTcr newRcr writeRcr lowOnly readRegister writeRegister access shown crcBit crcBits crcFrom crc mirror hash fcsWord fourBytes sameBytes badCrc broadcast group inTable accepted dataLength countOf pagesFor needed valueFor dropped judge groupBits frameStatus trailer image after arrive inLimits byteCount sendLength appends padded ended onWire controlByte putOut good failureBit collisionBits outcomeBits addressBits nibble counted tally nibbles anyAt15 newEcr newEphsr autoRelease sendHead ifUsable ifSendable finish serve stepOf runOf upFrom notedAll privateAfter
-headPrivate n inputs =
-    let c = runOf n inputs (powered paged n) .chip in
-    let p = privateBy n inputs (powered paged n) nonePrivate in
-    map (λ a. p (place (headPages c) a)) (upFrom 2 8 ++ ((headCount c - 1) ∷ []))
+-- what is private after these inputs
+unfoldable pub privateIn : ℕ → List Input → Private
+unfolding bit setBit clearBit flag lowByte highByte wordOf wordAt member some? owned unless freeBelow firstEmpty above ascends allBelow apart noneOwned pagesGood laidGood queueGood queuesGood numbersGood requestGood formed fit place getBytes putBytes decode perform due settle address advance next ifPacket against oddFixed past ifOpen valueOf readData writeData registerAt misplaced lanesAt taken merged width bytesOf forgotten writeTcr newRcr writeRcr lowOnly readRegister writeRegister access shown crcBit crcBits crcFrom crc mirror hash fcsWord fourBytes sameBytes badCrc broadcast group inTable accepted dataLength countOf pagesFor needed valueFor dropped judge groupBits frameStatus trailer image after arrive inLimits byteCount sendLength appends padded ended onWire controlByte putOut good failureBit collisionBits outcomeBits addressBits nibble counted tally nibbles anyAt15 newEcr newEphsr autoRelease sendHead ifUsable ifSendable finish serve stepOf runOf notedAll privateAfter
+privateIn n inputs = privateBy n inputs (powered paged n) nonePrivate
+
+-- of the TX head after them, which of bytes 2 to 9 are, and whether its control byte is
+abbrev pub headPrivate : ℕ → List Input → List Bool
+headPrivate n inputs = let c = ranFrom n inputs .chip in map (λ a. privateIn n inputs (place (headPages c) a)) (upFrom 2 8 ++ ((headCount c - 1) ∷ []))
 
 -- A received packet may be sent on as it is.
 pub sent-on-open : headPrivate 1 (sentOn plain) ≡ replicate 9 false
-unfolding headPrivate
+unfolding ranFrom privateIn place upFrom
 sent-on-open = refl
 
 -- With a smaller count its control byte is the frame's; the count is the driver's.
 pub shortened-private : headPrivate 1 (shortened plain) ≡ replicate 8 false ++ (true ∷ [])
-unfolding headPrivate
+unfolding ranFrom privateIn place upFrom
 shortened-private = refl
 
 -- A frame's second page, granted as a packet's first and not written, is the frame's;
 pub second-page-private : headPrivate 2 (queued counted12) ≡ replicate 9 true
-unfolding headPrivate
+unfolding ranFrom privateIn place upFrom
 second-page-private = refl
 
 -- and loaded by the driver it is not: a count of 12, six bytes of address, a filler and a control byte.
@@ -52,5 +53,10 @@ loaded f =
     ++ map driver (write word 8 12 ∷ write word 8 0xffff ∷ write word 8 0xffff ∷ write word 8 0xffff ∷ write word 8 0 ∷ write byte 0 0xc0 ∷ [])
 
 pub loaded-open : headPrivate 2 (loaded counted12) ≡ replicate 9 false
-unfolding headPrivate
+unfolding ranFrom privateIn place upFrom
 loaded-open = refl
+
+-- Bytes that nobody wrote since power-up are not private: a packet that is sent as it was granted, whose count is 0, is told from one run.
+pub unwritten-open : headPrivate 1 (map driver (write byte 0xe 2 ∷ write byte 0 0x20 ∷ write byte 2 0 ∷ write byte 0 0xc0 ∷ [])) ≡ replicate 9 false
+unfolding ranFrom privateIn place upFrom
+unwritten-open = refl

@@ -1,4 +1,4 @@
--- What no command, no data access, no frame and no send touches: the layout, and the link. Of every chip, well formed or not.
+-- What no command, no data access, no frame and no send touches: the layout, and the link; and of these a command, a data read and a write of interrupts leave the memory too. Of every chip, well formed or not.
 use mathlib.Core.Path.{_≡_, refl}
 use mathlib.Core.List.{List}
 use Prim.Native.Nat.{ℕ}
@@ -21,42 +21,55 @@ module _ (c : Chip) where
   abbrev In : Effect → Type 0
   In e = Untouched (e .chip)
 
+  -- and the memory is
+  abbrev pub Kept : Chip → Type 0
+  Kept d = (d .pool .layout ≡ c .pool .layout) × (d .regs .link ≡ c .regs .link) × (d .memory ≡ c .memory)
+
+  abbrev KeptIn : Effect → Type 0
+  KeptIn e = Kept (e .chip)
+
   abbrev By : Turn → Type 0
   By t = Untouched (t .chip)
 
   same : Untouched c
   same = (refl, refl)
 
+  kept : Kept c
+  kept = (refl, refl, refl)
+
   -- a grant of what waits
   settled : (d : Chip) → Untouched d → Untouched (settle d)
   settled d h = by-settle Untouched d (λ e. h) (λ e. h)
 
-  pub performs : (k : Command) → Untouched (perform k c .chip)
-  unfolding perform
-  performs nothing = same
-  performs (allocate m) = pick In (leb m (length (free c))) same same
-  performs reset = same
-  performs removeRx = by-head c In _ (c .pool .rx) same (λ k ks e. same)
-  performs removeAndRelease = by-head c In _ (c .pool .rx) same (λ k ks e. settled _ same)
-  performs release = by-idle c In _ same same (λ a r t. settled _ same)
-  performs enqueue = by-idle c In _ same same (λ a r t. same)
-  performs resetTx = same
-  performs unknown = same
+  settled-kept : (d : Chip) → Kept d → Kept (settle d)
+  settled-kept d h = by-settle Kept d (λ e. h) (λ e. h)
 
-  pub reads-data : (wide : ℕ) → Untouched (readData wide c .chip)
+  pub performs : (k : Command) → Kept (perform k c .chip)
+  unfolding perform
+  performs nothing = kept
+  performs (allocate m) = pick KeptIn (leb m (length (free c))) kept kept
+  performs reset = kept
+  performs removeRx = by-head c KeptIn _ (c .pool .rx) kept (λ k ks e. kept)
+  performs removeAndRelease = by-head c KeptIn _ (c .pool .rx) kept (λ k ks e. settled-kept _ kept)
+  performs release = by-idle c KeptIn _ kept kept (λ a r t. settled-kept _ kept)
+  performs enqueue = by-idle c KeptIn _ kept kept (λ a r t. kept)
+  performs resetTx = kept
+  performs unknown = kept
+
+  pub reads-data : (wide : ℕ) → Kept (readData wide c .chip)
   unfolding readData
-  reads-data wide = by-packet c In _ same same (λ pages. by-tests c In _ wide pages _ same same same same)
+  reads-data wide = by-packet c KeptIn _ kept kept (λ pages. by-tests c KeptIn _ wide pages _ kept kept kept kept)
 
   pub writes-data : (bytes : List ℕ) → Untouched (writeData bytes c .chip)
   unfolding writeData
   writes-data bytes = by-packet c In _ same same (λ pages. by-tests c In _ (length bytes) pages _ same same same same)
 
   -- an acknowledge, and a write of the mask
-  pub writes-interrupt : (p : Lanes) (v : ℕ) → Untouched (writeInterrupt p v c)
+  pub writes-interrupt : (p : Lanes) (v : ℕ) → Kept (writeInterrupt p v c)
   unfolding writeInterrupt
-  writes-interrupt low v = same
-  writes-interrupt high v = same
-  writes-interrupt both v = same
+  writes-interrupt low v = kept
+  writes-interrupt high v = kept
+  writes-interrupt both v = kept
 
   afters : (v : Arrival) (f : Frame) → Untouched (after v f c)
   unfolding after
