@@ -8,5 +8,5 @@ returns : tie.Need-returns
 unfolding bit
 returns c = search rules
 
-pub byte-is-set-spec : {M : Type 1} → statement M
-byte-is-set-spec = tie.close (tie.spec (λ c. search rules) returns)
+pub byte_is_set_spec : {M : Type 1} → statement M
+byte_is_set_spec = tie.close (tie.spec (λ c. search rules) returns)

@@ -8,5 +8,5 @@ returns : tie.Need-returns
 unfolding high_byte
 returns c = search rules
 
-pub high-byte-spec : {M : Type 1} → statement M
-high-byte-spec = tie.close (tie.spec (λ c. search rules) returns)
+pub high_byte_spec : {M : Type 1} → statement M
+high_byte_spec = tie.close (tie.spec (λ c. search rules) returns)

@@ -7,5 +7,5 @@ use Rattle.bits.proofs.is_odd.Tie as tie
 returns : tie.Need-returns
 returns c = sym (bit_zero c.args.n)
 
-pub is-odd-spec : {M : Type 1} → statement M
-is-odd-spec = tie.close (tie.spec returns)
+pub is_odd_spec : {M : Type 1} → statement M
+is_odd_spec = tie.close (tie.spec returns)

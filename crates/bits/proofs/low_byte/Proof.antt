@@ -8,5 +8,5 @@ returns : tie.Need-returns
 unfolding low_byte_lem
 returns c = search rules
 
-pub low-byte-spec : {M : Type 1} → statement M
-low-byte-spec = tie.close (tie.spec (λ c. search rules) returns)
+pub low_byte_spec : {M : Type 1} → statement M
+low_byte_spec = tie.close (tie.spec (λ c. search rules) returns)

@@ -12,15 +12,15 @@ use Rattle.bits.proofs.with_set.Tie as tie
 weight : (s : tie.Start) → 1 * 2 ^ s.args.k % 65536 ≡ 1 * 2 ^ s.args.k
 weight s = placed s.args.k 1 s.requires (omega arith)
 
-add-result : tie.Need-overflow-add-result
+add-result : tie.Need-overflow_add-result
 unfolding set_bit
 add-result c =
     let s = c.before in
-    record { fits = omega (arith, weight s, c.with-clear.ensures, set_lt s.args.k s.args.x 16 s.requires (search rules)) }
+    record { fits = omega (arith, weight s, c.with_clear.ensures, set_lt s.args.k s.args.x 16 s.requires (search rules)) }
 
 returns : tie.Need-returns
 unfolding set_bit
-returns c = omega (arith, weight c.before, c.with-clear.ensures)
+returns c = omega (arith, weight c.before, c.with_clear.ensures)
 
-pub with-set-spec : {M : Type 1} → statement M
-with-set-spec = tie.close (tie.spec (λ c κs. search rules) (λ c. search rules) add-result returns)
+pub with_set_spec : {M : Type 1} → statement M
+with_set_spec = tie.close (tie.spec (λ c κs. search rules) (λ c. search rules) add-result returns)

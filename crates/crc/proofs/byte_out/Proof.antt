@@ -11,5 +11,5 @@ use Rattle.crc.proofs.byte_out.Tie as tie
 returns : tie.Need-returns
 returns c = joined 4 c.before.before.args.a _ _ (omega arith) c.before.seventh.ensures (c.eighth.ensures ∙ ap (λ (y : ℕ). mirror 32 (crc_bits 32 0 y)) (mul-one _))
 
-pub byte-out-spec : {M : Type 1} → statement M
-byte-out-spec = tie.close (tie.spec (λ c κs. search rules) (λ c κs. search rules) returns)
+pub byte_out_spec : {M : Type 1} → statement M
+byte_out_spec = tie.close (tie.spec (λ c κs. search rules) (λ c κs. search rules) returns)

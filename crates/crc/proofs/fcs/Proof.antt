@@ -12,5 +12,5 @@ returns : tie.Need-returns
 unfolding fcs_word
 returns c = ap (λ (r : ℕ). 0xffffffff - r) c.remainder.ensures ∙ sym (mirror_complement _ (crc_lt c.before.before.args.bytes.now))
 
-pub fcs-spec : {M : Type 1} → statement M
-fcs-spec = tie.close (tie.spec (λ c κs. search rules) (λ c. search rules) returns)
+pub fcs_spec : {M : Type 1} → statement M
+fcs_spec = tie.close (tie.spec (λ c κs. search rules) (λ c. search rules) returns)

@@ -17,5 +17,5 @@ returns c =
     (joined 20 (a / 16 / 16) _ _ (omega arith) third.third.ensures
     (joined 16 (a / 16 / 16 / 16) _ _ (omega arith) fourth.fourth.ensures c.half_out.ensures)))
 
-pub word-out-spec : {M : Type 1} → statement M
-word-out-spec = tie.close (tie.spec (λ c κs. search rules) (λ c κs. search rules) (λ c κs. search rules) (λ c κs. search rules) (λ c κs. search rules) returns)
+pub word_out_spec : {M : Type 1} → statement M
+word_out_spec = tie.close (tie.spec (λ c κs. search rules) (λ c κs. search rules) (λ c κs. search rules) (λ c κs. search rules) (λ c κs. search rules) returns)

@@ -3,12 +3,12 @@ use Rattle.crc.proofs.Arms.{arm, last}
 use Rattle.crc.proofs.tables.sixth.Statement.{statement}
 use Rattle.crc.proofs.tables.sixth.Tie as tie
 
-pub sixth-spec : {M : Type 1} → statement M
+pub sixth_spec : {M : Type 1} → statement M
 unfolding mirror crc_bits crc_bit
-sixth-spec =
+sixth_spec =
     tie.close
     (tie.spec
-    (λ c. arm 8 _ _ c.match.keys1) (λ c. arm 8 _ _ c.match.keys2) (λ c. arm 8 _ _ c.match.keys3) (λ c. arm 8 _ _ c.match.keys4)
-    (λ c. arm 8 _ _ c.match.keys5) (λ c. arm 8 _ _ c.match.keys6) (λ c. arm 8 _ _ c.match.keys7) (λ c. arm 8 _ _ c.match.keys8)
-    (λ c. arm 8 _ _ c.match.keys9) (λ c. arm 8 _ _ c.match.keys10) (λ c. arm 8 _ _ c.match.keys11) (λ c. arm 8 _ _ c.match.keys12)
-    (λ c. arm 8 _ _ c.match.keys13) (λ c. arm 8 _ _ c.match.keys14) (λ c. arm 8 _ _ c.match.keys15) (λ c. arm 8 _ _ (last _ c.before.requires c.match.rest)))
+    (λ c. arm 8 _ _ c.in-0.is) (λ c. arm 8 _ _ c.in-1.is) (λ c. arm 8 _ _ c.in-2.is) (λ c. arm 8 _ _ c.in-3.is)
+    (λ c. arm 8 _ _ c.in-4.is) (λ c. arm 8 _ _ c.in-5.is) (λ c. arm 8 _ _ c.in-6.is) (λ c. arm 8 _ _ c.in-7.is)
+    (λ c. arm 8 _ _ c.in-8.is) (λ c. arm 8 _ _ c.in-9.is) (λ c. arm 8 _ _ c.in-10.is) (λ c. arm 8 _ _ c.in-11.is)
+    (λ c. arm 8 _ _ c.in-12.is) (λ c. arm 8 _ _ c.in-13.is) (λ c. arm 8 _ _ c.in-14.is) (λ c. arm 8 _ _ (last _ c.before.requires c.in_default.in_default-own.rest)))

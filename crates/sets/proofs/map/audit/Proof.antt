@@ -13,7 +13,7 @@ use Rattle.sets.proofs.map.audit.Statement.{statement}
 use Rattle.sets.proofs.map.audit.Tie as tie
 
 abbrev At : Type 0
-At = tie.After-joined
+At = tie.After-joined-j
 
 abbrev Sets : At → List ℕ
 Sets a = a.before.before.before.args.sets.now
@@ -23,26 +23,26 @@ abbrev Count : At → ℕ
 Count a = a.before.before.before.args.count
 
 abbrev Owned : At → ℕ
-Owned a = let r = a.joined.result in join4 r.0 r.1 r.2 r.3
+Owned a = let r = a.joined-j.result in join4 r.0 r.1 r.2 r.3
 
 fits : (a : At) (i : ℕ) → get_or (Sets a) i 0 < 4294967296
-fits a i = omega (arith, a.before.before.shared-slice-known.given i)
+fits a i = omega (arith, a.before.before.shared_slice_known-1.given i)
 
 owned-is : (a : At) → Owned a ≡ joined (Sets a)
 owned-is a =
-    let r = a.joined.result in
-    join_all (Sets a) r.0 r.1 r.2 r.3 r.4 a.joined.ensures
+    let r = a.joined-j.result in
+    join_all (Sets a) r.0 r.1 r.2 r.3 r.4 a.joined-j.ensures
     (or_lt 32 _ _ (or_lt 32 r.0 r.1 (omega arith) (omega arith)) (or_lt 32 r.2 r.3 (omega arith) (omega arith))) (fits a)
 
-sum_is : (a : At) → a.joined.result.4 ≡ total (Sets a) % 2 ^ 32
-sum_is a = let r = a.joined.result in sum_all (Sets a) r.0 r.1 r.2 r.3 r.4 a.joined.ensures (omega arith)
+sum_is : (a : At) → a.joined-j.result.4 ≡ total (Sets a) % 2 ^ 32
+sum_is a = let r = a.joined-j.result in sum_all (Sets a) r.0 r.1 r.2 r.3 r.4 a.joined-j.ensures (omega arith)
 
 -- Of few pages 24 sets do not wrap.
 no_wrap : (n k : ℕ) → n ≤ 24 → k ≡ 24 → k * 2 ^ n < 2 ^ 32
 no_wrap n k h e = rw e (let m : 2 ^ n ≤ 2 ^ 24 = pow_mono h in omega (arith, m))
 
 -- Where the sets are below 2 ^ n and their sum is what they own.
-module _ (a : At) (low : Owned a < 2 ^ Count a) (same : a.joined.result.4 ≡ Owned a) where
+module _ (a : At) (low : Owned a < 2 ^ Count a) (same : a.joined-j.result.4 ≡ Owned a) where
   good : {b : Bool} → Decides b (FewEach 8 (Sets a)) → Decides b (GoodPages (Count a) (map pages_of (Sets a)))
   good =
       few_good (Count a) (Sets a) (fits a) (no_wrap (Count a) _ a.before.before.before.requires.1 a.before.before.before.requires.0) (subst (λ (x : ℕ). x < 2 ^ Count a) (owned-is a) low)
@@ -52,48 +52,48 @@ module _ (a : At) (low : Owned a < 2 ^ Count a) (same : a.joined.result.4 ≡ Ow
   free = let e = free_rest (Owned a) (map pages_of (Sets a)) (λ p. ap (bit p) (owned-is a) ∙ joined_owned (Sets a) (fits a) p) (Count a) low in omega (arith, e)
 
 -- What is owned is no more than all pages.
-low_of : (c : tie.Else1) → let a = c.before.before.before in Owned a < 2 ^ Count a
-low_of c = let a = c.before.before.before in omega (arith, a.before.all-pages.ensures, pow_pos (Count a), c.if1.false)
+low_of : (c : tie.Else-all-owned) → let a = c.before.before.before in Owned a < 2 ^ Count a
+low_of c = let a = c.before.before.before in omega (arith, a.before.all_pages-all.ensures, pow_pos (Count a), c.if-all-owned.false)
 
-returns : tie.Need-returns
+returns : tie.Need-returns-then-all-owned
 returns c =
     let a = c.before.before.before in
-    (joined_high (Count a) (Sets a) (fits a) (subst (λ (x : ℕ). 2 ^ Count a ≤ x) (owned-is a) (omega (arith, a.before.all-pages.ensures, c.if1.true))), refl)
+    (joined_high (Count a) (Sets a) (fits a) (subst (λ (x : ℕ). 2 ^ Count a ≤ x) (owned-is a) (omega (arith, a.before.all_pages-all.ensures, c.if-all-owned.true))), refl)
 
-returns-2 : tie.Need-returns-2
+returns-2 : tie.Need-returns-then-j-owned
 returns-2 c =
     let a = c.before.before.before.before.before in
-    (sum_other (Count a) (Sets a) (fits a) (omega (arith, a.before.before.before.requires.1)) (λ e. omega (arith, c.if2.true, sum_is a ∙ e ∙ sym (owned-is a))), refl)
+    (sum_other (Count a) (Sets a) (fits a) (omega (arith, a.before.before.before.requires.1)) (λ e. omega (arith, c.if-j-owned.true, sum_is a ∙ e ∙ sym (owned-is a))), refl)
 
-sub-free : tie.Need-overflow-sub-free
+sub-free : tie.Need-overflow_sub-free
 sub-free c = let a = c.before.before.before.before.before in ones-le (Count a) (Owned a) (low_of c.before.before)
 
-returns-3 : tie.Need-returns-3
+returns-3 : tie.Need-returns-then-pages-le-MOST
 returns-3 c =
     let b = c.before in
     let a = b.before.before.before.before.before in
     let low = low_of b.before.before in
-    let same : a.joined.result.4 ≡ Owned a = omega arith in
+    let same : a.joined-j.result.4 ≡ Owned a = omega arith in
     let few : ones (Owned a) ≤ 8 = omega arith in
     (good a low same (always (λ i. le_trans (ones_joined (Sets a) i) (subst (λ (x : ℕ). ones x ≤ 8) (owned-is a) few))), free a low same)
 
-returns-4 : tie.Need-returns-4
+returns-4 : tie.Need-returns-then-few_each
 returns-4 c =
     let f = c.before in
     let b = f.before.before.before.before.before.before.before in
     let a = b.before.before.before.before.before in
     let low = low_of b.before.before in
-    let same : a.joined.result.4 ≡ Owned a = omega arith in
-    (good a low same (always (f.few-each.ensures.sound c.if5.true)), free a low same)
+    let same : a.joined-j.result.4 ≡ Owned a = omega arith in
+    (good a low same (always (f.few_each.ensures.sound c.if-few_each.true)), free a low same)
 
-returns-5 : tie.Need-returns-5
+returns-5 : tie.Need-returns-then-crowded
 returns-5 c =
     let f = c.before in
     let b = f.before.before.before.before.before.before.before in
     let a = b.before.before.before.before.before in
     let low = low_of b.before.before in
-    let same : a.joined.result.4 ≡ Owned a = omega arith in
-    (good a low same (refutes f.few-each.ensures (λ few. few) c.if5.false), refl)
+    let same : a.joined-j.result.4 ≡ Owned a = omega arith in
+    (good a low same (refutes f.few_each.ensures (λ few. few) c.if-few_each.false), refl)
 
 not-crowded : {r : Bool} (s : ℕ) → r ≡ ltb 8 (ones s) → r ≡ false → ones s ≤ 8
 not-crowded s e f = ltb-false 8 (ones s) (sym e ∙ f)
@@ -104,26 +104,26 @@ none_of w x y z e =
     let two = or_left (w || x) y three in
     (or_left w x two, or_right w x two, or_right (w || x) y three, or_right ((w || x) || y) z e)
 
-returns-6 : tie.Need-returns-6
+returns-6 : tie.Need-returns-then-all-owned
 returns-6 c =
     let c4 = c.before in
     let c3 = c4.before in
     let c2 = c3.before in
     let c1 = c2.before in
     let b = c1.before.before in
-    let a = b.before.before.before.before.before in
-    let r = a.joined.result in
+    let a = b.before in
+    let r = a.joined-j.result in
     let low = low_of b.before.before in
-    let same : a.joined.result.4 ≡ Owned a = omega arith in
-    let n = none_of c1.crowded.result c2.crowded2.result c3.crowded3.result c4.crowded4.result c.if4.false in
+    let same : a.joined-j.result.4 ≡ Owned a = omega arith in
+    let n = none_of c1.crowded.result c2.crowded-2.result c3.crowded-3.result c4.crowded-4.result c.if-crowded.false in
     let few =
-    few_all (Sets a) r.0 r.1 r.2 r.3 r.4 a.joined.ensures 8
-    (not-crowded r.0 c1.crowded.ensures n.0) (not-crowded r.1 c2.crowded2.ensures n.1)
-    (not-crowded r.2 c3.crowded3.ensures n.2) (not-crowded r.3 c4.crowded4.ensures n.3) in
+    few_all (Sets a) r.0 r.1 r.2 r.3 r.4 a.joined-j.ensures 8
+    (not-crowded r.0 c1.crowded.ensures n.0) (not-crowded r.1 c2.crowded-2.ensures n.1)
+    (not-crowded r.2 c3.crowded-3.ensures n.2) (not-crowded r.3 c4.crowded-4.ensures n.3) in
     (good a low same (always few), free a low same)
 
-pub audit-spec : {M : Type 1} → statement M
-audit-spec =
+pub audit_spec : {M : Type 1} → statement M
+audit_spec =
     tie.close
     (tie.spec
     (λ c κs. search rules) (λ c κs. search rules) returns returns-2 (λ c. search rules) sub-free returns-3 (λ c κs. search rules) (λ c κs. search rules) (λ c κs. search rules) (λ c κs. search rules) (λ c κs. search rules) returns-4 returns-5 returns-6)

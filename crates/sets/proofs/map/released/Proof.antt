@@ -10,5 +10,5 @@ returns c =
     let a = c.before.args in
     map_set pages_of a.sets.now a.packet.0 0 ∙ ap (λ (l : List ℕ). set (map pages_of a.sets.now) a.packet.0 l) pages_none
 
-pub released-spec : {M : Type 1} → statement M
-released-spec = tie.close (tie.spec (λ c. search rules) (λ c. search rules) (λ c. search rules) (λ c. search rules) returns)
+pub released_spec : {M : Type 1} → statement M
+released_spec = tie.close (tie.spec (λ c. search rules) (λ c. search rules) (λ c. search rules) (λ c. search rules) returns)
