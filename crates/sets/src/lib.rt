@@ -7,10 +7,13 @@ pub use set::{has_pages, lowest_page, nth_page, page_count, without};
 
 // A packet number is never a page number, nor is either an address within a packet: `released(sets, Page(3))` is a type error.
 #[derive(Drop)]
+#[derive(Clone, Copy)]
 pub struct Packet(pub u8);
 
 #[derive(Drop)]
+#[derive(Clone, Copy)]
 pub struct Page(pub u8);
 
 #[derive(Drop)]
+#[derive(Clone, Copy)]
 pub struct Address(pub u16);

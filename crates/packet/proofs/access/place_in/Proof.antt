@@ -11,20 +11,20 @@ use Rattle.sets.specs.Pages.{rest_some}
 use Rattle.packet.proofs.access.place_in.Statement.{statement}
 use Rattle.packet.proofs.access.place_in.Tie as tie
 
-lowest-page-requires : tie.Need-lowest-page-requires
+lowest-page-requires : tie.Need-lowest_page-requires
 lowest-page-requires c κs = rest_some c.args.rest c.args.rest 0 refl c.requires
 
 returns : tie.Need-returns
 unfolding place
 returns c =
-    let s = c.before.before.before in
+    let s = c in
     let a = s.args.at.0 in
     let f : a % 256 / 256 ≡ 0 = omega arith in
     let g : a % 256 % 256 ≡ a % 256 = omega arith in
-    let e : c.before.before.lowest-page.result.0 ≡ get_or (pages_of s.args.rest) 0 0 = c.before.before.lowest-page.ensures in
+    let e : c.lowest_page.result.0 ≡ get_or (pages_of s.args.rest) 0 0 = c.lowest_page.ensures in
     (rw (f, g) (ap (λ (p : ℕ). p * 256 + a % 256) e), λ n below. omega (arith, e, below_at n (pages_of s.args.rest) 0 below s.requires))
 
-pub place-in-spec : {M : Type 1} → statement M
-place-in-spec =
+pub place_in_spec : {M : Type 1} → statement M
+place_in_spec =
     tie.close
     (tie.spec lowest-page-requires (λ c. search rules) (λ c. search rules) (λ c. search rules) (λ c. search rules) returns)

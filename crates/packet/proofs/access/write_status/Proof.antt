@@ -12,19 +12,19 @@ use Rattle.packet.proofs.Facts.{room_place}
 use Rattle.packet.proofs.access.write_status.Statement.{statement}
 use Rattle.packet.proofs.access.write_status.Tie as tie
 
-inside : tie.Need-put-word-requires
-inside c κs = omega (arith, room_place c.before.before.before.requires _ 0 c.IsPlace-in.ensures.1)
+inside : tie.Need-put_word-requires
+inside c κs = omega (arith, room_place c.requires _ 0 c.place_in.ensures.1)
 
 returns : tie.Need-returns
 returns c =
     let q = c.before.before in
     let p = q.before in
-    let s = p.before.before.before in
+    let s = p in
     let bytes = low_byte_lem s.args.status ∷ high_byte s.args.status ∷ [] in
     let m = s.args.memory.now in
     q.put_word.ensures
-    ∙ ap (λ (i : ℕ). sets m i bytes) p.IsPlace-in.ensures.0
+    ∙ ap (λ (i : ℕ). sets m i bytes) p.place_in.ensures.0
     ∙ sym (put_within (pages_of s.args.pages) bytes 0 m (omega arith))
 
-pub write-status-spec : {M : Type 1} → statement M
-write-status-spec = tie.close (tie.spec (λ c κs. search rules) inside (λ c. search rules) returns)
+pub write_status_spec : {M : Type 1} → statement M
+write_status_spec = tie.close (tie.spec (λ c κs. search rules) inside (λ c. search rules) returns)

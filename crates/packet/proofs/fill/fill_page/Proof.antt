@@ -11,24 +11,24 @@ use Rattle.packet.proofs.Facts.{room_place}
 use Rattle.packet.proofs.fill.fill_page.Statement.{statement}
 use Rattle.packet.proofs.fill.fill_page.Tie as tie
 
-inside : (p : tie.After-place-in) → let s = p.before.before.before in p.IsPlace-in.result + (256 - s.args.at.0 % 256) ≤ length s.args.memory.now
-inside p = room_place p.before.before.before.requires.1 _ _ p.IsPlace-in.ensures.1
+inside : (p : tie.After-place_in-start) → let s = p in p.place_in-start.result + (256 - s.args.at.0 % 256) ≤ length s.args.memory.now
+inside p = room_place p.requires.1 _ _ p.place_in-start.ensures.1
 
 returns : tie.Need-returns
 returns c =
     let p = c.before.before.before.before.before in
-    let s = p.before.before.before in
+    let s = p in
     let x = s.args in
     let m = x.memory.now in
     let a = x.at.0 % 256 in
-    let i = p.IsPlace-in.result in
+    let i = p.place_in-start.result in
     let k = i + (256 - a) - i in
-    ap (λ (y : List ℕ). take i m ++ (y ++ drop k (drop i m))) c.before.before.fill-part.ensures
-    ∙ part_put (pages_of x.rest) x.part.now m a i k p.IsPlace-in.ensures.0
-    (omega (arith, s.requires.0)) (omega (arith, s.requires.0)) (omega (arith, room_place s.requires.1 i x.at.0 p.IsPlace-in.ensures.1))
+    ap (λ (y : List ℕ). take i m ++ (y ++ drop k (drop i m))) c.fill_part.ensures
+    ∙ part_put (pages_of x.rest) x.part.now m a i k p.place_in-start.ensures.0
+    (omega (arith, s.requires.0)) (omega (arith, s.requires.0)) (omega (arith, room_place s.requires.1 i x.at.0 p.place_in-start.ensures.1))
 
-pub fill-page-spec : {M : Type 1} → statement M
-fill-page-spec =
+pub fill_page_spec : {M : Type 1} → statement M
+fill_page_spec =
     tie.close
     (tie.spec
     (λ c κs. search rules)
@@ -38,6 +38,6 @@ fill-page-spec =
     (λ c. search rules)
     (λ c. omega (arith, inside c.before))
     (λ c. omega (arith, inside c.before))
-    (λ c κs. let p = c.before.before in simp (length-take, length-drop) (omega (arith, inside p, p.before.before.before.requires.0)))
+    (λ c κs. let p = c.before.before in simp (length-take, length-drop) (omega (arith, inside p, p.requires.0)))
     (λ c. search rules)
     returns)

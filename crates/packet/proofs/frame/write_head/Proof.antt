@@ -13,36 +13,36 @@ use Rattle.packet.proofs.Facts.{room_place}
 use Rattle.packet.proofs.frame.write_head.Statement.{statement}
 use Rattle.packet.proofs.frame.write_head.Tie as tie
 
-inside : (p : tie.After-place-in) → let s = p.before.before in p.IsPlace-in.result + 256 ≤ length s.args.memory.now
-inside p = room_place p.before.before.requires _ 0 p.IsPlace-in.ensures.1
+inside : (p : tie.After-place_in-i) → let s = p in p.place_in-i.result + 256 ≤ length s.args.memory.now
+inside p = room_place p.requires _ 0 p.place_in-i.ensures.1
 
 -- the first word leaves memory as long
-again : tie.Need-put-word-requires-2
+again : tie.Need-put_word-requires-2
 again c κs =
     let q = c.before.before.before in
     let p = q.before.before in
-    let x = p.before.before.args in
-    omega (arith, inside p, ap length q.put_word.ensures ∙ length-sets x.memory.now p.IsPlace-in.result (low_byte_lem x.status ∷ high_byte x.status ∷ []))
+    let x = p.args in
+    omega (arith, inside p, ap length q.put_word.ensures ∙ length-sets x.memory.now p.place_in-i.result (low_byte_lem x.status ∷ high_byte x.status ∷ []))
 
 returns : tie.Need-returns
 returns c =
     let r = c.before.before in
     let q = r.before.before.before.before in
     let p = q.before.before in
-    let s = p.before.before in
+    let s = p in
     let x = s.args in
     let first = low_byte_lem x.status ∷ high_byte x.status ∷ [] in
     let second = low_byte_lem x.count ∷ high_byte x.count ∷ [] in
-    let i = p.IsPlace-in.result in
+    let i = p.place_in-i.result in
     let m = x.memory.now in
     let e : i + 2 ≡ suc (suc i) = omega arith in
-    r.put-word2.ensures
+    r.put_word-2.ensures
     ∙ ap₂ (λ (l : List ℕ) (j : ℕ). sets l j second) q.put_word.ensures e
-    ∙ ap (λ (j : ℕ). sets m j (low_byte_lem x.status ∷ high_byte x.status ∷ second)) p.IsPlace-in.ensures.0
+    ∙ ap (λ (j : ℕ). sets m j (low_byte_lem x.status ∷ high_byte x.status ∷ second)) p.place_in-i.ensures.0
     ∙ sym (put_within (pages_of x.pages) (low_byte_lem x.status ∷ high_byte x.status ∷ second) 0 m (omega arith))
 
-pub write-head-spec : {M : Type 1} → statement M
-write-head-spec =
+pub write_head_spec : {M : Type 1} → statement M
+write_head_spec =
     tie.close
     (tie.spec
     (λ c κs. search rules)

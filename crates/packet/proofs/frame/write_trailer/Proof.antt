@@ -14,33 +14,33 @@ use Rattle.packet.proofs.Facts.{room_place}
 use Rattle.packet.proofs.frame.write_trailer.Statement.{statement}
 use Rattle.packet.proofs.frame.write_trailer.Tie as tie
 
-inside : (p : tie.After-place-in) → let s = p.before.before in p.IsPlace-in.result + (256 - (s.args.n + 4) % 256) ≤ length s.args.memory.now
-inside p = room_place p.before.before.requires.1 _ _ p.IsPlace-in.ensures.1
+inside : (p : tie.After-place_in-i) → let s = p in p.place_in-i.result + (256 - (s.args.n + 4) % 256) ≤ length s.args.memory.now
+inside p = room_place p.requires.1 _ _ p.place_in-i.ensures.1
 
-returns : tie.Need-returns
+returns : tie.Need-returns-then-n-eq1
 unfolding put_bytes
 returns c =
     let p = c.before in
-    let s = p.before.before in
-    rw (trailer_odd s.args.n c.if1.true, p.IsPlace-in.ensures.0)
+    let s = p in
+    rw (trailer_odd s.args.n c.if-n-eq1.true, p.place_in-i.ensures.0)
 
-returns-2 : tie.Need-returns-2
+returns-2 : tie.Need-returns
 unfolding low_byte_lem high_byte
 returns-2 c =
     let q = c.before.before in
     let f = q.before.before in
     let p = f.before in
-    let s = p.before.before in
+    let s = p in
     let n = s.args.n in
     let m = s.args.memory.now in
     let bytes : List ℕ = 0 ∷ 0x40 ∷ [] in
-    rw (trailer_even n f.if1.false)
+    rw (trailer_even n f.if-n-eq1.false)
     (q.put_word.ensures
-    ∙ ap (λ (i : ℕ). sets m i bytes) p.IsPlace-in.ensures.0
-    ∙ sym (put_within (pages_of s.args.last) bytes ((n + 4) % 256) m (omega (arith, f.if1.false))))
+    ∙ ap (λ (i : ℕ). sets m i bytes) p.place_in-i.ensures.0
+    ∙ sym (put_within (pages_of s.args.last) bytes ((n + 4) % 256) m (omega (arith, f.if-n-eq1.false))))
 
-pub write-trailer-spec : {M : Type 1} → statement M
-write-trailer-spec =
+pub write_trailer_spec : {M : Type 1} → statement M
+write_trailer_spec =
     tie.close
     (tie.spec
     (λ c. search rules)
@@ -49,6 +49,6 @@ write-trailer-spec =
     (λ c. omega (arith, inside c.before))
     (λ c. search rules)
     returns
-    (λ c κs. omega (arith, inside c.before.before, c.before.if1.false))
+    (λ c κs. omega (arith, inside c.before.before, c.if-n-eq1.false))
     (λ c. search rules)
     returns-2)

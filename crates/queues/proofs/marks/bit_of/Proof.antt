@@ -8,7 +8,7 @@ use Rattle.queues.proofs.marks.bit_of.Statement.{statement}
 use Rattle.queues.proofs.marks.bit_of.Tie as tie
 
 returns : tie.Need-returns
-returns c = shl_exact 1 c.before.args.packet.0 32 (omega arith) (omega arith) ∙ one-mul _
+returns c = shl_exact 1 c.args.packet.0 32 (omega arith) (omega arith) ∙ one-mul _
 
-pub bit-of-spec : {M : Type 1} → statement M
-bit-of-spec = tie.close (tie.spec (λ c. search rules) (λ c. search rules) returns)
+pub bit_of_spec : {M : Type 1} → statement M
+bit_of_spec = tie.close (tie.spec (λ c. search rules) (λ c. search rules) returns)

@@ -5,8 +5,8 @@ use Rattle.queues.proofs.Powers.{smaller}
 use Rattle.queues.proofs.marks.with.Statement.{statement}
 use Rattle.queues.proofs.marks.with.Tie as tie
 
-bit-of-requires : tie.Need-bit-of-requires
+bit-of-requires : tie.Need-bit_of-requires
 bit-of-requires c κs = smaller c.args.packet.0 32 (omega arith)
 
-pub with-spec : {M : Type 1} → statement M
-with-spec = tie.close (tie.spec bit-of-requires (λ c. search rules) (λ c. search rules))
+pub with_spec : {M : Type 1} → statement M
+with_spec = tie.close (tie.spec bit-of-requires (λ c. search rules) (λ c. search rules))

@@ -104,14 +104,14 @@ none_of w x y z e =
     let two = or_left (w || x) y three in
     (or_left w x two, or_right w x two, or_right (w || x) y three, or_right ((w || x) || y) z e)
 
-returns-6 : tie.Need-returns-then-all-owned
+returns-6 : tie.Need-returns
 returns-6 c =
     let c4 = c.before in
     let c3 = c4.before in
     let c2 = c3.before in
     let c1 = c2.before in
     let b = c1.before.before in
-    let a = b.before in
+    let a = b.before.before.before.before.before in
     let r = a.joined-j.result in
     let low = low_of b.before.before in
     let same : a.joined-j.result.4 ≡ Owned a = omega arith in

@@ -1,10 +1,11 @@
 -- The sets before k are 0, and those from k on as they were.
-use Rattle.std.proofs.Common.{◌≡◌, ℕ, ◌-◌, ◌≤◌, List, [], ◌++◌, map, length, get_or, drop, set, replicate, sym, refl, ap, ◌∙◌, ⊎_elim, append-nil, arith, length-set, drop_of_length-le, rules}
+use Rattle.std.proofs.Common.{◌≡◌, ℕ, ◌-◌, ◌≤◌, List, [], ◌++◌, map, length, get_or, drop, set, replicate, sym, refl, ap, ◌∙◌, append-nil, arith, length-set, drop_of_length-le, rules}
 use lib.Seq.{set-get_or}
 use borrow.Author.Fill.{fill_more}
 use Rattle.sets.specs.Views.{pages_of}
 use Rattle.sets.specs.Lists.{empty_sets}
 use Rattle.sets.proofs.map.cleared.Statement.{statement}
+use Rattle.sets.proofs.map.cleared.Lts.{then-sets-k-ne0, else-sets-k-ne0}
 use Rattle.sets.proofs.map.cleared.Tie as tie
 
 abbrev invariant-loop : tie.invariant-loop-k
@@ -21,7 +22,7 @@ same-where-0 : (l : List ℕ) (k : ℕ) → get_or l k 0 ≡ 0 → l ≡ set l k
 same-where-0 l k e = sym (set-get_or l k 0) ∙ ap (λ (x : ℕ). set l k x) e
 
 stored : (c : tie.Joined-sets-k-ne0 invariant-loop decreases-loop) → c.if-sets-k-ne0.sets ≡ set c.before.before.before.loop-k.sets c.before.before.before.loop-k.k 0
-stored c = ⊎_elim (λ t. t.1) (λ f. f.1 ∙ same-where-0 _ _ f.0.left) c.if-sets-k-ne0.branch
+stored c = elim c.if-sets-k-ne0.branch [ then-sets-k-ne0 t ↦ t.sets-is | else-sets-k-ne0 f ↦ f.sets-is ∙ same-where-0 _ _ f.if-sets-k-ne0.false ]
 
 loop-again : tie.Need-loop-k-preserved invariant-loop decreases-loop
 loop-again c =

@@ -6,5 +6,5 @@ use Rattle.state.proofs.bytes.is_high.Tie as tie
 returns : tie.Need-returns
 returns c = high_odd c.args.width c.args.offset c.requires
 
-pub is-high-spec : {M : Type 1} → statement M
-is-high-spec = tie.close (tie.spec returns)
+pub is_high_spec : {M : Type 1} → statement M
+is_high_spec = tie.close (tie.spec returns)

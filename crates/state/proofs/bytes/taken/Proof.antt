@@ -8,17 +8,17 @@ use borrow.Author.Rules.{rules}
 use Rattle.state.proofs.bytes.taken.Statement.{statement}
 use Rattle.state.proofs.bytes.taken.Tie as tie
 
-returns : tie.Need-returns
+returns : tie.Need-returns-then-offset-eq1
 unfolding taken high_byte
-returns c = rw (c.before.enum_told.given.1, high_part _ c.if1.true) (omega arith)
+returns c = rw (c.in-Byte.is, high_part _ c.if-offset-eq1.true) (omega arith)
 
-returns-2 : tie.Need-returns-2
+returns-2 : tie.Need-returns-else-offset-eq1
 unfolding taken low_byte_lem
-returns-2 c = rw (c.before.enum_told.given.1, low_part _ c.if1.false) refl
+returns-2 c = rw (c.in-Byte.is, low_part _ c.if-offset-eq1.false) refl
 
-returns-3 : tie.Need-returns-3
+returns-3 : tie.Need-returns-in-Word
 unfolding taken lanes_at
-returns-3 c = rw c.enum-told2.given.1
+returns-3 c = rw c.in-Word.is
 
-pub taken-spec : {M : Type 1} → statement M
-taken-spec = tie.close (tie.spec (λ c. search rules) returns (λ c. search rules) returns-2 returns-3)
+pub taken_spec : {M : Type 1} → statement M
+taken_spec = tie.close (tie.spec (λ c. search rules) returns (λ c. search rules) returns-2 returns-3)

@@ -9,17 +9,17 @@ use Rattle.bits.specs.Laws.{set_lt}
 use Rattle.state.proofs.link.shown_ephsr.Statement.{statement}
 use Rattle.state.proofs.link.shown_ephsr.Tie as tie
 
-add-result : tie.Need-overflow-add-result
+add-result : tie.Need-overflow_add-result
 unfolding set_bit
 add-result c =
-    let f = c.before in
-    record { fits = omega (arith, c.with-clear.ensures, f.flag-of.ensures.1, set_lt 14 f.before.before.args.ephsr 16 (omega arith) (search rules)) }
+    let f = c in
+    record { fits = omega (arith, c.with_clear.ensures, f.flag_of-up.ensures.1, set_lt 14 f.args.ephsr 16 (omega arith) (search rules)) }
 
 returns : tie.Need-returns
 unfolding shown
 returns c =
-    let f = c.before in
-    omega (arith, c.with-clear.ensures, f.flag-of.ensures.0 ∙ ap flag f.before.is_set.ensures)
+    let f = c in
+    omega (arith, c.with_clear.ensures, f.flag_of-up.ensures.0 ∙ ap flag f.is_set.ensures)
 
-pub shown-ephsr-spec : {M : Type 1} → statement M
-shown-ephsr-spec = tie.close (tie.spec (λ c κs. search rules) (λ c κs. search rules) (λ c κs. search rules) (λ c. search rules) add-result returns)
+pub shown_ephsr_spec : {M : Type 1} → statement M
+shown_ephsr_spec = tie.close (tie.spec (λ c κs. search rules) (λ c κs. search rules) (λ c κs. search rules) (λ c. search rules) add-result returns)

@@ -9,17 +9,17 @@ use Rattle.state.proofs.part.part_named.Tie as tie
 abbrev Byte : tie.Start → ℕ → Type 0
 Byte s k = s.args.byte ≡ k
 
-returns : tie.Need-returns
+returns : tie.Need-returns-in-148
 unfolding part_named
-returns c = let e : Byte c.before 0x94 = c.match.keys1 in rw e
+returns c = let e : Byte c.before 0x94 = c.in-148.is in rw e
 
-returns-2 : tie.Need-returns-2
+returns-2 : tie.Need-returns-in-150
 unfolding part_named
-returns-2 c = let e : Byte c.before 0x96 = c.match.keys2 in rw e
+returns-2 c = let e : Byte c.before 0x96 = c.in-150.is in rw e
 
-returns-3 : tie.Need-returns-3
+returns-3 : tie.Need-returns-in_default
 unfolding part_named
-returns-3 c = let n = c.match.rest in rw (ne_eqb c.before.args.byte 0x94 n.0.1, ne_eqb c.before.args.byte 0x96 n.1)
+returns-3 c = let n = c.in_default.in_default-own.rest in rw (ne_eqb c.args.byte 0x94 n.0.1, ne_eqb c.args.byte 0x96 n.1)
 
-pub part-named-spec : {M : Type 1} → statement M
-part-named-spec = tie.close (tie.spec returns returns-2 returns-3)
+pub part_named_spec : {M : Type 1} → statement M
+part_named_spec = tie.close (tie.spec returns returns-2 returns-3)
