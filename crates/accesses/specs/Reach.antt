@@ -1,7 +1,7 @@
 -- From the register at a place to the rules' access.
 use Rattle.std.specs.Prelude.{◌≡◌, refl, Bool, true, false, cond, List, ℕ, ◌+◌, ◌*◌, ◌/◌, ◌%◌, ◌<◌, ltb}
 use Rattle.std.proofs.Common.{ap, sym, subst, ◌∙◌, arith, ltb-false}
-use Rattle.rules.specs.Bits.{bit, low_byte_lem}
+use Rattle.rules.specs.Bits.{bit, low_byte}
 use Rattle.rules.specs.Chip.{Layout, Chip}
 use Rattle.rules.specs.Answers.{Effect, refuse}
 use Rattle.rules.specs.Mmu.{command}
@@ -89,8 +89,8 @@ writes_data width.Word offset v c = refl
 -- The MMU command: its high byte is read-only.
 pub orders_none : (p : Lanes) (v : ℕ) (c : Chip) → is_high p ≡ true → write_register COMMAND p v c ≡ refuse 3 c
 unfolding write_register
-orders_none p v c e = low_only_lem p c (command (low_byte_lem v) c) ∙ rw e refl
+orders_none p v c e = low_only_lem p c (command (low_byte v) c) ∙ rw e refl
 
-pub orders : (p : Lanes) (v : ℕ) (c : Chip) → is_high p ≡ false → write_register COMMAND p v c ≡ command (low_byte_lem v) c
+pub orders : (p : Lanes) (v : ℕ) (c : Chip) → is_high p ≡ false → write_register COMMAND p v c ≡ command (low_byte v) c
 unfolding write_register
-orders p v c e = low_only_lem p c (command (low_byte_lem v) c) ∙ rw e refl
+orders p v c e = low_only_lem p c (command (low_byte v) c) ∙ rw e refl

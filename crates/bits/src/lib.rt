@@ -2,7 +2,7 @@
 // Callers give a constant k, and the compiler inlines these across crates: then a bit is one `test` (or a shift and an `and`),
 // a bit set or cleared one `or` or `and` with a constant, a byte one shift, a word one shift and one `or`. So no masks are written here.
 ghost use Rattle.std.specs.Prelude.{◌≡◌, ◌&&◌, ◌||◌, ◌<◌};
-ghost use Rattle.rules.specs.Bits.{bit, set_bit, clear_bit, flag, low_byte_lem, high_byte, word_of_lem};
+ghost use Rattle.rules.specs.Bits.{bit, set_bit, clear_bit, flag, low_byte, high_byte, word_of};
 
 // Is bit k of a register set?
 pub fn is_set(x: u16, k: u16) -> bool
@@ -52,7 +52,7 @@ pub fn flag_of(b: bool) -> u16
 
 // The two bytes of a word, and the word of two bytes.
 pub fn low_byte(x: u16) -> u8
-    ensures { result ≡ low_byte_lem x }
+    ensures { result ≡ low_byte x }
 {
     (x % 256) as u8
 }
@@ -64,7 +64,7 @@ pub fn high_byte(x: u16) -> u8
 }
 
 pub fn word(low: u8, high: u8) -> u16
-    ensures { result ≡ word_of_lem low high }
+    ensures { result ≡ word_of low high }
 {
     low as u16 + high as u16 * 256
 }

@@ -3,7 +3,7 @@ use Rattle.std.specs.Prelude.{◌≡◌, Bool, not, List, [], ◌∷◌, ℕ, le
 use Rattle.std.proofs.Math.Path.{refl, sym}
 use Rattle.std.proofs.Common.{subst, ◌∙◌}
 use Rattle.std.proofs.Math.Bool.{true, false}
-use Rattle.rules.specs.Bits.{bit, low_byte_lem}
+use Rattle.rules.specs.Bits.{bit, low_byte}
 use Rattle.rules.specs.Chip.{Registers, Pool, Chip, pages_at, allocated, free}
 use Rattle.rules.specs.Answers.{Reply, Effect, did}
 use Rattle.rules.specs.Mmu.{Command, nothing, allocate, reset, remove_rx, remove_and_release, release, enqueue, reset_tx, unknown, decode, due, settle, queued, if_idle, if_head, perform}
@@ -159,7 +159,7 @@ module _ (c : Chip) (bytes : List ℕ) (long : length bytes ≡ length c.memory)
   writes RESERVED p v = by_lanes_both p _ _ done_both
   writes (STATION k) p v = done_both
   writes CONTROL p v = done_both
-  writes COMMAND p v = by_lanes_both p _ _ (performs (decode (low_byte_lem v)))
+  writes COMMAND p v = by_lanes_both p _ _ (performs (decode (low_byte v)))
   writes PACKET p v = by_lanes_both p _ _ done_both
   writes HEADS p v = as_is _
   writes POINTER p v = done_both

@@ -6,7 +6,7 @@ use Rattle.std.proofs.Math.Bool.{false, not}
 use mathlib.Core.List.{List, [], ◌∷◌, ◌++◌}
 use borrow.Author.Tests.{ltb-false, not-false}
 use Rattle.std.proofs.Math.ListN.{length}
-use Rattle.rules.specs.Bits.{bit, low_byte_lem, high_byte}
+use Rattle.rules.specs.Bits.{bit, low_byte, high_byte}
 use Rattle.rules.specs.Lists.{some?}
 use Rattle.rules.specs.Chip.{Registers, Pool, Chip}
 use Rattle.rules.specs.Fields.{set_tx}
@@ -67,7 +67,7 @@ module _ (c : Chip) (bytes : List ℕ) (long : length bytes ≡ length c.memory)
   -- A status word is written into both, and the packet retires on both.
   module _ (k word : ℕ) (pages : List ℕ) (r : Registers) (q : Pool) where
     abbrev put : List ℕ → List ℕ
-    put = put_bytes (low_byte_lem word ∷ high_byte word ∷ []) 0 pages
+    put = put_bytes (low_byte word ∷ high_byte word ∷ []) 0 pages
 
     put_long : length (put bytes) ≡ length (put c.memory)
     put_long = length_put _ 0 pages bytes ∙ long ∙ sym (length_put _ 0 pages c.memory)

@@ -5,7 +5,7 @@ use Rattle.std.proofs.Common.{◌∙◌}
 use Rattle.std.proofs.Math.Bool.{false}
 use mathlib.Core.List.{List, [], ◌∷◌}
 use Prim.Native.Nat.{ℕ}
-use Rattle.rules.specs.Bits.{bit, low_byte_lem, high_byte}
+use Rattle.rules.specs.Bits.{bit, low_byte, high_byte}
 use Rattle.rules.specs.Lists.{some?}
 use Rattle.rules.specs.Chip.{Chip, pages_at, allocated, free}
 use Rattle.rules.specs.Fields.{set_tx, in_registers, in_pool, in_memory}
@@ -50,7 +50,7 @@ frame_put no_room f c = no_put
 abbrev pub status_put : Send → Chip → Put
 status_put s c =
     let e = status_word (good c.regs.sending.tcr s.outcome) s (get_bytes 6 4 (head_pages c) c.memory) c.regs in
-    record { bytes = low_byte_lem e ∷ high_byte e ∷ []; at = 0; pages = head_pages c }
+    record { bytes = low_byte e ∷ high_byte e ∷ []; at = 0; pages = head_pages c }
 
 -- what an input puts where it is done; a write puts data alone, and to another register none
 abbrev pub put_by : Input → Chip → Put
@@ -127,7 +127,7 @@ module _ (c : Chip) where
   writes RESERVED p v = kept_puts (by_lanes c Kept p _ refl refl)
   writes (STATION k) p v = kept_puts refl
   writes CONTROL p v = kept_puts refl
-  writes COMMAND p v = kept_puts (by_lanes c Kept p _ refl (performs c (decode (low_byte_lem v))).2)
+  writes COMMAND p v = kept_puts (by_lanes c Kept p _ refl (performs c (decode (low_byte v))).2)
   writes PACKET p v = kept_puts (by_lanes c Kept p _ refl refl)
   writes HEADS p v = kept_puts refl
   writes POINTER p v = kept_puts refl

@@ -1,7 +1,7 @@
 -- Why W10's promise asks what it asks: two runs from power-up that differ in one thing alone, and end in another answer. Computed, on the paged chip with one packet or two. Each FCS is zlib's.
 use Rattle.std.specs.Prelude.{◌≡◌, refl, List, [], ◌∷◌, ◌++◌, map, true, false, ℕ, ◌-◌, length, get_or, take, set, replicate}
 use Rattle.std.proofs.Common.{sym}
-use Rattle.rules.specs.Bits.{bit, set_bit, clear_bit, flag, low_byte_lem, high_byte, word_of_lem, word_at}
+use Rattle.rules.specs.Bits.{bit, set_bit, clear_bit, flag, low_byte, high_byte, word_of, word_at}
 use Rattle.rules.specs.Lists.{member, some?, owned, unless, free_below, first_empty}
 use Rattle.rules.specs.Chip.{paged, powered}
 use Rattle.rules.specs.Answers.{Reply, done, refusal_with}
@@ -20,7 +20,7 @@ use Rattle.blind_laws.specs.Alike.{FrameAlike}
 
 -- a run of these inputs from power-up, on a chip of n packets
 unfoldable pub ran_from : ℕ → List Input → Ran
-unfolding bit set_bit clear_bit flag low_byte_lem high_byte word_of_lem word_at member some? owned unless free_below first_empty above ascends all_below apart none_owned pages_good laid_good queue_good queues_good numbers_good request_good formed fit place get_bytes put_bytes decode perform due settle address advance next if_packet against odd_fixed past if_open value_of read_data write_data register_at misplaced lanes_at taken merged width bytes_of forgotten write_tcr new_rcr write_rcr low_only read_register write_register access shown crc_bit crc_bits crc_from crc mirror hash fcs_word four_bytes same_bytes bad_crc broadcast group in_table accepted data_length count_of pages_for needed value_for dropped judge group_bits frame_status trailer image after arrive in_limits byte_count send_length appends padded ended on_wire control_byte put_out good failure_bit collision_bits outcome_bits address_bits nibble counted tally nibbles any_at15 new_ecr new_ephsr auto_release send_head if_usable if_sendable finish serve step_of run_of
+unfolding bit set_bit clear_bit flag low_byte high_byte word_of word_at member some? owned unless free_below first_empty above ascends all_below apart none_owned pages_good laid_good queue_good queues_good numbers_good request_good formed fit place get_bytes put_bytes decode perform due settle address advance next if_packet against odd_fixed past if_open value_of read_data write_data register_at misplaced lanes_at taken merged width bytes_of forgotten write_tcr new_rcr write_rcr low_only read_register write_register access shown crc_bit crc_bits crc_from crc mirror hash fcs_word four_bytes same_bytes bad_crc broadcast group in_table accepted data_length count_of pages_for needed value_for dropped judge group_bits frame_status trailer image after arrive in_limits byte_count send_length appends padded ended on_wire control_byte put_out good failure_bit collision_bits outcome_bits address_bits nibble counted tally nibbles any_at15 new_ecr new_ephsr auto_release send_head if_usable if_sendable finish serve step_of run_of
 ran_from n inputs = run_of n inputs (powered paged n)
 
 -- the reply to the last input, and the first eleven bytes of its output buffer

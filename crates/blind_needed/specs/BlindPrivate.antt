@@ -1,6 +1,6 @@
 -- What is private, of runs that were seen to go apart and of runs that cannot, computed: so that the premise which is told from one run alone shuts out what it should, and no more.
 use Rattle.std.specs.Prelude.{◌≡◌, refl, List, [], ◌∷◌, ◌++◌, map, Bool, true, false, ℕ, ◌-◌, replicate}
-use Rattle.rules.specs.Bits.{bit, set_bit, clear_bit, flag, low_byte_lem, high_byte, word_of_lem, word_at}
+use Rattle.rules.specs.Bits.{bit, set_bit, clear_bit, flag, low_byte, high_byte, word_of, word_at}
 use Rattle.rules.specs.Lists.{up_from, member, some?, owned, unless, free_below, first_empty}
 use Rattle.rules.specs.Chip.{paged, powered}
 use Rattle.rules.specs.Tests.{above, ascends, all_below, apart, none_owned, pages_good, laid_good, queue_good, queues_good, numbers_good, request_good, formed, fit}
@@ -19,7 +19,7 @@ use Rattle.blind_needed.specs.BlindNeeded.{ran_from, plain, counted12, shortened
 
 -- what is private after these inputs
 unfoldable pub private_in : ℕ → List Input → Private
-unfolding bit set_bit clear_bit flag low_byte_lem high_byte word_of_lem word_at member some? owned unless free_below first_empty above ascends all_below apart none_owned pages_good laid_good queue_good queues_good numbers_good request_good formed fit place get_bytes put_bytes decode perform due settle address advance next if_packet against odd_fixed past if_open value_of read_data write_data register_at misplaced lanes_at taken merged width bytes_of forgotten write_tcr new_rcr write_rcr low_only read_register write_register access shown crc_bit crc_bits crc_from crc mirror hash fcs_word four_bytes same_bytes bad_crc broadcast group in_table accepted data_length count_of pages_for needed value_for dropped judge group_bits frame_status trailer image after arrive in_limits byte_count send_length appends padded ended on_wire control_byte put_out good failure_bit collision_bits outcome_bits address_bits nibble counted tally nibbles any_at15 new_ecr new_ephsr auto_release send_head if_usable if_sendable finish serve step_of run_of noted_all private_after
+unfolding bit set_bit clear_bit flag low_byte high_byte word_of word_at member some? owned unless free_below first_empty above ascends all_below apart none_owned pages_good laid_good queue_good queues_good numbers_good request_good formed fit place get_bytes put_bytes decode perform due settle address advance next if_packet against odd_fixed past if_open value_of read_data write_data register_at misplaced lanes_at taken merged width bytes_of forgotten write_tcr new_rcr write_rcr low_only read_register write_register access shown crc_bit crc_bits crc_from crc mirror hash fcs_word four_bytes same_bytes bad_crc broadcast group in_table accepted data_length count_of pages_for needed value_for dropped judge group_bits frame_status trailer image after arrive in_limits byte_count send_length appends padded ended on_wire control_byte put_out good failure_bit collision_bits outcome_bits address_bits nibble counted tally nibbles any_at15 new_ecr new_ephsr auto_release send_head if_usable if_sendable finish serve step_of run_of noted_all private_after
 private_in n inputs = private_by n inputs (powered paged n) none_private
 
 -- of the TX head after them, which of bytes 2 to 9 are, and whether its control byte is

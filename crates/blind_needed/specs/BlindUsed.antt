@@ -1,7 +1,7 @@
 -- A history that W10's promise is about: a frame is received, taken from RX and sent on as it is, and its payload is another in the other run. Of one run alone it is shown that its send looks at no private byte; the promise is then of both.
 use Rattle.std.specs.Prelude.{◌≡◌, refl, Bool, false, List, ◌++◌, ℕ, zero, suc, ◌≤◌}
 use Rattle.std.proofs.Common.{arith}
-use Rattle.rules.specs.Bits.{bit, set_bit, clear_bit, flag, low_byte_lem, high_byte, word_of_lem, word_at}
+use Rattle.rules.specs.Bits.{bit, set_bit, clear_bit, flag, low_byte, high_byte, word_of, word_at}
 use Rattle.rules.specs.Lists.{member, some?, owned, unless, free_below, first_empty}
 use Rattle.rules.specs.Chip.{paged, powered}
 use Rattle.rules.specs.Tests.{above, ascends, all_below, apart, none_owned, pages_good, laid_good, queue_good, queues_good, numbers_good, request_good, formed, fit}
@@ -54,7 +54,7 @@ one_by_one q b c d e f g h i (suc (suc (suc (suc (suc (suc (suc (suc (suc (suc k
 
 -- Count, first six bytes and trailer of the frame are what the send looks at.
 pub used_open : SendsOpen 1 mine (powered paged 1) none_private
-unfolding bit set_bit clear_bit flag low_byte_lem high_byte word_of_lem word_at member some? owned unless free_below first_empty above ascends all_below apart none_owned pages_good laid_good queue_good queues_good numbers_good request_good formed fit place get_bytes put_bytes decode perform due settle address advance next if_packet against odd_fixed past if_open value_of read_data write_data register_at misplaced lanes_at taken merged width bytes_of forgotten write_tcr new_rcr write_rcr low_only read_register write_register access shown crc_bit crc_bits crc_from crc mirror hash fcs_word four_bytes same_bytes bad_crc broadcast group in_table accepted data_length count_of pages_for needed value_for dropped judge group_bits frame_status trailer image after arrive in_limits byte_count send_length appends padded ended on_wire control_byte put_out good failure_bit collision_bits outcome_bits address_bits nibble counted tally nibbles any_at15 new_ecr new_ephsr auto_release send_head if_usable if_sendable finish serve step_of run_of noted_all private_after
+unfolding bit set_bit clear_bit flag low_byte high_byte word_of word_at member some? owned unless free_below first_empty above ascends all_below apart none_owned pages_good laid_good queue_good queues_good numbers_good request_good formed fit place get_bytes put_bytes decode perform due settle address advance next if_packet against odd_fixed past if_open value_of read_data write_data register_at misplaced lanes_at taken merged width bytes_of forgotten write_tcr new_rcr write_rcr low_only read_register write_register access shown crc_bit crc_bits crc_from crc mirror hash fcs_word four_bytes same_bytes bad_crc broadcast group in_table accepted data_length count_of pages_for needed value_for dropped judge group_bits frame_status trailer image after arrive in_limits byte_count send_length appends padded ended on_wire control_byte put_out good failure_bit collision_bits outcome_bits address_bits nibble counted tally nibbles any_at15 new_ecr new_ephsr auto_release send_head if_usable if_sendable finish serve step_of run_of noted_all private_after
 used_open = (tt, (tt, (tt, (tt, (tt, (tt, (λ r. record { bytes = one_by_one _ refl refl refl refl refl refl refl refl; control = λ u. refl }, tt)))))))
 
 pub used : RunsAlike 1 mine yours (powered paged 1) (powered paged 1)

@@ -1,6 +1,6 @@
 -- Document 02, W11: the driver's calls. Each is told by the accesses that it makes, in order; what it decides, it decides by the values that these answer.
 use Rattle.std.specs.Prelude.{Bool, true, false, cond, not, ◌&&◌, List, [], ◌∷◌, ◌++◌, ℕ, zero, suc, ◌+◌, ◌-◌, eqb, leb, ltb, length}
-use Rattle.rules.specs.Bits.{bit, low_byte_lem, high_byte, word_of_lem}
+use Rattle.rules.specs.Bits.{bit, low_byte, high_byte, word_of}
 use Rattle.rules.specs.Chip.{Chip}
 use Rattle.rules.specs.Answers.{Reply, done, refusal, over}
 use Rattle.rules.specs.Registers.{Access}
@@ -42,13 +42,13 @@ unfoldable pub ending : ℕ → List ℕ
 ending n = cond (bit 0 n) (0x20 ∷ []) (0 ∷ 0 ∷ [])
 
 unfoldable pub packet_of : List ℕ → List ℕ
-packet_of f = 0 ∷ 0 ∷ low_byte_lem (count_of (length f)) ∷ high_byte (count_of (length f)) ∷ (f ++ ending (length f))
+packet_of f = 0 ∷ 0 ∷ low_byte (count_of (length f)) ∷ high_byte (count_of (length f)) ∷ (f ++ ending (length f))
 
 -- bytes written by words, "lower first" (a packet has an even number of them)
 unfoldable pub words_of : List ℕ → List Access
 words_of [] = []
 words_of (x ∷ []) = write_byte x ∷ []
-words_of (x ∷ y ∷ ys) = write_word (word_of_lem x y) ∷ words_of ys
+words_of (x ∷ y ∷ ys) = write_word (word_of x y) ∷ words_of ys
 
 -- it "fills the packet and enqueues it": its number, the pointer (AUTO INCR, to write, from address 0), the bytes, C0h
 abbrev pub load : ℕ → List ℕ → List Access
@@ -96,8 +96,8 @@ draws (suc (suc n)) = read_word ∷ draws n
 
 unfoldable pub drawn : ℕ → Chip → List ℕ
 drawn zero c = []
-drawn (suc zero) c = low_byte_lem (gives read_byte c) ∷ []
-drawn (suc (suc n)) c = low_byte_lem (gives read_word c) ∷ high_byte (gives read_word c) ∷ drawn n (leaves read_word c)
+drawn (suc zero) c = low_byte (gives read_byte c) ∷ []
+drawn (suc (suc n)) c = low_byte (gives read_word c) ∷ high_byte (gives read_word c) ∷ drawn n (leaves read_word c)
 
 -- "4 caller's buffer shorter than n"; else "it copies out the RX head's n data bytes, then removes and releases it" (80h)
 unfoldable pub drain : Bool → List ℕ → Chip → Called

@@ -1,6 +1,6 @@
 -- The program "converter_bench", driver and chip together: the bench's records of kinds 5 to 9, and 16 to 18 for the driver's calls; lines as "watch" prints them.
 use Rattle.std.specs.Prelude.{Bool, true, false, cond, List, [], ◌∷◌, ◌++◌, ℕ, zero, suc, ◌+◌, eqb, ltb, length, take, drop}
-use Rattle.rules.specs.Bits.{word_of_lem}
+use Rattle.rules.specs.Bits.{word_of}
 use Rattle.rules.specs.Parts.{lan91c96}
 use Rattle.rules.specs.Chip.{paged, Chip, powered}
 use Rattle.rules.specs.Answers.{Reply, done, refusal}
@@ -34,7 +34,7 @@ allowed unknown = unknown
 unfoldable pub asks_of : List ℕ → Asks
 asks_of b =
     cond (eqb (at b 0) 16) offers
-    (cond (eqb (at b 0) 17) (drains (word_of_lem (at b 1) (at b 2)))
+    (cond (eqb (at b 0) 17) (drains (word_of (at b 1) (at b 2)))
     (cond (eqb (at b 0) 18) is_told (of_bench (allowed (event_of b)))))
 
 -- the bench, and whether the driver asked for a request that it has not yet used

@@ -1,6 +1,6 @@
 -- What the parts of a data access promise: which packet the pointer means, where the first byte lies or why it is refused, and what is behind the gate.
 use Rattle.std.specs.Prelude.{◌≡◌, Bool, true, false, cond, not, List, [], ◌∷◌, ℕ, ◌*◌, ◌/◌, ◌%◌, ◌<◌, length, get_or, drop}
-use Rattle.rules.specs.Bits.{low_byte_lem, high_byte}
+use Rattle.rules.specs.Bits.{low_byte, high_byte}
 use Rattle.rules.specs.Lists.{some?}
 use Rattle.rules.specs.Chip.{Registers, Layout, paged, Chip}
 use Rattle.rules.specs.Fields.{set_pointer, in_memory}
@@ -22,8 +22,8 @@ width_of true = 2
 width_of false = 1
 
 abbrev pub bytes_for : Bool → ℕ → List ℕ
-bytes_for true v = low_byte_lem v ∷ high_byte v ∷ []
-bytes_for false v = low_byte_lem v ∷ []
+bytes_for true v = low_byte v ∷ high_byte v ∷ []
+bytes_for false v = low_byte v ∷ []
 
 -- the packet that the pointer means: the head of RX, or that of the packet number register; 24, which has no pages, where RX is empty
 abbrev pub head_or24 : List ℕ → ℕ

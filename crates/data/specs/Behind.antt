@@ -7,7 +7,7 @@ use Prim.Native.Nat.{ℕ, suc, ◌+◌, ◌*◌, ◌/◌, ◌%◌, ◌^◌, ◌<
 use borrow.Author.Tests.{lt-ltb, le-ltb}
 use Rattle.std.proofs.Math.ListN.{length, get_or, length-drop}
 use Rattle.std.proofs.Math.Seq.{get_or-drop}
-use Rattle.rules.specs.Bits.{low_byte_lem, high_byte, word_of_lem}
+use Rattle.rules.specs.Bits.{low_byte, high_byte, word_of}
 use Rattle.rules.specs.Chip.{Layout}
 use Rattle.rules.specs.Fields.{in_memory}
 use Rattle.rules.specs.Answers.{Effect}
@@ -74,12 +74,12 @@ pub over_inside : (rest more : ℕ) → pages_of more ≡ drop 1 (pages_of rest)
 over_inside rest more f b g {n} below = rw (rest_first rest more 1 f) (below_at n (pages_of rest) 1 below (rest_goes rest more 1 f b g))
 
 -- Two bytes, read or written one by one.
-pub two_read : (mem pages : List ℕ) (a : ℕ) {i j v : ℕ} → v ≡ word_of_lem (get_or mem i 0) (get_or mem j 0) → i ≡ place pages a → j ≡ place pages (suc a)
+pub two_read : (mem pages : List ℕ) (a : ℕ) {i j v : ℕ} → v ≡ word_of (get_or mem i 0) (get_or mem j 0) → i ≡ place pages a → j ≡ place pages (suc a)
     → v ≡ value_of (get_bytes 2 a pages mem)
-unfolding value_of get_bytes word_of_lem
+unfolding value_of get_bytes word_of
 two_read mem pages a e f g = e ∙ ap₂ (λ (i j : ℕ). get_or mem i 0 + get_or mem j 0 * 256) f g ∙ omega arith
 
-pub two_written : (mem pages : List ℕ) (a v : ℕ) {i j low high : ℕ} → low ≡ low_byte_lem v → high ≡ high_byte v → i ≡ place pages a → j ≡ place pages (suc a)
+pub two_written : (mem pages : List ℕ) (a v : ℕ) {i j low high : ℕ} → low ≡ low_byte v → high ≡ high_byte v → i ≡ place pages a → j ≡ place pages (suc a)
     → set (set mem i low) j high ≡ put_bytes (bytes_for true v) a pages mem
 unfolding put_bytes
 two_written mem pages a v l h f g = rw (l, h, f, g)

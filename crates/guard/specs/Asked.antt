@@ -1,7 +1,7 @@
 -- Refusal 16 by its tests: what is asked of a record with 24 places, for the part with n packets. Of the part that it names all of it is so exactly where the record holds (`holds_asked`, `asked_holds`).
 use Rattle.std.specs.Prelude.{◌≡◌, List, map, ℕ, ◌-◌, length, drop, replicate}
 use Rattle.std.proofs.Common.{ap, sym, subst, ◌∙◌, arith, length-take-le}
-use Rattle.rules.specs.Bits.{word_of_lem}
+use Rattle.rules.specs.Bits.{word_of}
 use Rattle.rules.specs.Lists.{free_below}
 use Rattle.rules.specs.Parts.{IsPart}
 use Rattle.rules.specs.WellFormed.{GoodPages, GoodQueues, GoodNumbers}
@@ -22,7 +22,7 @@ pub record Asked (n : ℕ) (w s q : List ℕ) : Type 0 where
   pub words : Kept w × GoodNumbers n (registers_in w).numbers
   pub rest : drop n s ≡ replicate (24 - n) 0
   pub pages : GoodPages n (map pages_of s)
-  pub free : word w 4 ≡ word_of_lem n (length (free_below n (map pages_of s)))
+  pub free : word w 4 ≡ word_of n (length (free_below n (map pages_of s)))
   pub request : RequestFormed (word w 4) (word w 17) (word w 23)
   pub queues : QueuesIn (figures w) q × GoodQueues n (map pages_of s) (queue_in 0 (word w 6) q) (queue_in 1 (word w 8) q) (queue_in 2 (word w 9) q)
 
@@ -38,7 +38,7 @@ module _ {w s q : List ℕ} where
         words = (r.sound.kept, onPart (λ m. GoodNumbers m (registers_in w).numbers) r.well.numbers);
         rest = h.rest;
         pages = pages_same (λ i. sym (part_pages s n h.rest i)) (onPart (λ m. GoodPages m (map pages_of u)) r.well.pages);
-        free = onPart (λ m. word w 4 ≡ word_of_lem m (length (free_below m (map pages_of u)))) (sets_free r.sound.sets) ∙ ap (λ (l : List ℕ). word_of_lem n (length l)) (sym (part_free s n h.rest n));
+        free = onPart (λ m. word w 4 ≡ word_of m (length (free_below m (map pages_of u)))) (sets_free r.sound.sets) ∙ ap (λ (l : List ℕ). word_of n (length l)) (sym (part_free s n h.rest n));
         request = (request_restated w (length u) _ (part_few r.sound.sets.part) r.sound.sets.free).1 r.well.request;
         queues = (r.sound.queues, queues_same (λ i. sym (part_pages s n h.rest i)) (onPart (λ m. GoodQueues m (map pages_of u) (queue_in 0 (word w 6) q) (queue_in 1 (word w 8) q) (queue_in 2 (word w 9) q)) r.well.queues));
       }
@@ -50,8 +50,8 @@ module _ {w s q : List ℕ} where
       let many : length u ≡ n = length-take-le n s (omega (arith, long, part_few a.part)) in
       let onPart : (P : ℕ → Type 0) → P n → P (length u) = λ P. subst P (sym many) in
       let same = part_pages s n a.rest in
-      let counted = onPart (λ m. word w 4 ≡ word_of_lem m (length (free_below m (map pages_of u)))) (a.free ∙ ap (λ (l : List ℕ). word_of_lem n (length l)) (part_free s n a.rest n)) in
-      let free = counted ∙ ap (λ (l : List ℕ). word_of_lem (length u) (length l)) (sym (free_sets u)) in
+      let counted = onPart (λ m. word w 4 ≡ word_of m (length (free_below m (map pages_of u)))) (a.free ∙ ap (λ (l : List ℕ). word_of n (length l)) (part_free s n a.rest n)) in
+      let free = counted ∙ ap (λ (l : List ℕ). word_of (length u) (length l)) (sym (free_sets u)) in
       let part = onPart IsPart a.part in
       record {
         ready = record {

@@ -6,7 +6,7 @@ use Prim.Native.Nat.{ℕ, ◌*◌, ◌/◌, ◌%◌, ◌^◌}
 use native.Mathlib.Omega.{arith}
 use lib.Dec.{eqb}
 use lib.ListN.{set, drop}
-use Rattle.rules.specs.Bits.{bit, low_byte_lem, high_byte}
+use Rattle.rules.specs.Bits.{bit, low_byte, high_byte}
 use Rattle.rules.specs.Chip.{Registers, Layout, Chip}
 use Rattle.rules.specs.Fields.{set_tx_empty, set_overrun, set_completion, set_mask, in_registers, in_pool}
 use Rattle.rules.specs.Interrupts.{acknowledge}
@@ -21,13 +21,13 @@ use Rattle.interrupts.specs.Promises.{Acknowledged, Acknowledges}
 use Rattle.interrupts.proofs.Queues.{no_entries}
 
 -- bit 1 of the low byte
-same_bit : (v : ℕ) → bit 1 (low_byte_lem v) ≡ bit 1 v
-unfolding bit low_byte_lem
+same_bit : (v : ℕ) → bit 1 (low_byte v) ≡ bit 1 v
+unfolding bit low_byte
 same_bit v = let e : v % 256 / 2 ^ 1 % 2 ≡ v / 2 ^ 1 % 2 = omega arith in ap (λ (n : ℕ). eqb n 1) e
 
 -- the two latches after an acknowledge by v
 abbrev unlatched : ℕ → Registers → Registers
-unlatched v r = set_tx_empty (r.sending.tx_empty && not (bit 2 (low_byte_lem v))) (set_overrun (r.receiving.overrun && not (bit 4 (low_byte_lem v))) r)
+unlatched v r = set_tx_empty (r.sending.tx_empty && not (bit 2 (low_byte v))) (set_overrun (r.receiving.overrun && not (bit 4 (low_byte v))) r)
 
 -- The latches are stored, then the head of completion leaves, or there is none that must.
 module _ (v new : ℕ) (w q : List ℕ) (k : Kept w) (h : QueuesIn (figures w) q) (a : Acknowledged v (word w 13) new) where
@@ -44,7 +44,7 @@ module _ (v new : ℕ) (w q : List ℕ) (k : Kept w) (h : QueuesIn (figures w) q
   mir_then = ap (λ (c : List ℕ). word c 3) latched.still
 
   -- where the queue of completion stays as it was
-  same_queue : cond (bit 1 (low_byte_lem v)) (drop 1 (queue_in 2 (word w 9) q)) (queue_in 2 (word w 9) q) ≡ queue_in 2 (word w 9) q → Acknowledges v w q (set w 13 new) q
+  same_queue : cond (bit 1 (low_byte v)) (drop 1 (queue_in 2 (word w 9) q)) (queue_in 2 (word w 9) q) ≡ queue_in 2 (word w 9) q → Acknowledges v w q (set w 13 new) q
   same_queue e = record {
     chip = λ l s mem. sets_chip latched l s q mem ∙ ap (λ (x : List ℕ). in_pool (set_completion x) (in_registers (unlatched v) (view_of l w s q mem))) (sym e);
     free = mir_then;
@@ -58,7 +58,7 @@ module _ (v new : ℕ) (w q : List ℕ) (k : Kept w) (h : QueuesIn (figures w) q
   pub none_there : word (set w 13 new) 9 ≡ 0 → Acknowledges v w q (set w 13 new) q
   none_there z =
       let e = no_entries (queue_in 2 (word w 9) q) (word w 9) h.completion.many (sym (ap (λ (c : List ℕ). word c 2) latched.still) ∙ z) in
-      same_queue (ap (λ (l : List ℕ). cond (bit 1 (low_byte_lem v)) (drop 1 l) l) e ∙ either (bit 1 (low_byte_lem v)) ∙ sym e)
+      same_queue (ap (λ (l : List ℕ). cond (bit 1 (low_byte v)) (drop 1 l) l) e ∙ either (bit 1 (low_byte v)) ∙ sym e)
     where
       either : (b : Bool) → cond {A = List ℕ} b [] [] ≡ []
       either true = refl
@@ -75,14 +75,14 @@ module _ (v new : ℕ) (w q : List ℕ) (k : Kept w) (h : QueuesIn (figures w) q
   }
 
 -- An acknowledge after the mask is stored is a write of both; and the mask alone.
-with_mask : (p : Lanes) (v m old : ℕ) (c : Chip) → is_high p ≡ false → c.regs.mask ≡ old / 256 → m ≡ high_after p v old → acknowledge (low_byte_lem v) (in_registers (set_mask m) c) ≡ write_interrupt p v c
+with_mask : (p : Lanes) (v m old : ℕ) (c : Chip) → is_high p ≡ false → c.regs.mask ≡ old / 256 → m ≡ high_after p v old → acknowledge (low_byte v) (in_registers (set_mask m) c) ≡ write_interrupt p v c
 unfolding write_interrupt high_byte
-with_mask low v m old c notHigh same e = ap (λ (x : ℕ). acknowledge (low_byte_lem v) (in_registers (set_mask x) c)) (e ∙ sym same)
+with_mask low v m old c notHigh same e = ap (λ (x : ℕ). acknowledge (low_byte v) (in_registers (set_mask x) c)) (e ∙ sym same)
 with_mask high v m old c notHigh same e = absurd (let y : ◌≡◌ {A = ℕ} 0 1 = cc in omega arith)
-with_mask both v m old c notHigh same e = ap (λ (x : ℕ). acknowledge (low_byte_lem v) (in_registers (set_mask x) c)) e
+with_mask both v m old c notHigh same e = ap (λ (x : ℕ). acknowledge (low_byte v) (in_registers (set_mask x) c)) e
 
 mask_alone : (p : Lanes) (v m old : ℕ) (c : Chip) → is_high p ≡ true → m ≡ high_after p v old → in_registers (set_mask m) c ≡ write_interrupt p v c
-unfolding write_interrupt low_byte_lem
+unfolding write_interrupt low_byte
 mask_alone low v m old c is_high e = absurd (let y : ◌≡◌ {A = ℕ} 0 1 = cc in omega arith)
 mask_alone high v m old c is_high e = ap (λ (x : ℕ). in_registers (set_mask x) c) e
 mask_alone both v m old c is_high e = absurd (let y : ◌≡◌ {A = ℕ} 0 1 = cc in omega arith)
@@ -112,7 +112,7 @@ module _ (p : Lanes) (v new m : ℕ) (w q : List ℕ) (k : Kept w) (h : QueuesIn
   pub writes_both : {w' q' : List ℕ} → is_high p ≡ false → Acknowledges v (set w 22 m) q w' q' → (l : Layout) (s mem : List ℕ) → PagesIn l (figures w) s → MakesOf l (write_register INTERRUPT p v (view_of l w s q mem)) (Done 0) w' s q' mem
   unfolding write_register
   writes_both e a l s mem h = record {
-    chip = a.chip l s mem ∙ ap (acknowledge (low_byte_lem v)) (sets_chip masked l s q mem) ∙ with_mask p v (new / 256) (word w 22) (view_of l w s q mem) e refl joined.high;
+    chip = a.chip l s mem ∙ ap (acknowledge (low_byte v)) (sets_chip masked l s q mem) ∙ with_mask p v (new / 256) (word w 22) (view_of l w s q mem) e refl joined.high;
     reply = refl;
     sound = record { kept = a.kept; queues = a.queues; sets = record { part = h.part; free = a.free ∙ (masked_sets h).free; small = h.small } };
   }

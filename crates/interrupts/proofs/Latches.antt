@@ -8,7 +8,7 @@ use native.Mathlib.Decide.{ℕ_discrete}
 use lib.Bits.{bit_and, and_le_l}
 use lib.Dec.{eqb}
 use lib.Pow.{pow_mono}
-use Rattle.rules.specs.Bits.{bit, flag, low_byte_lem}
+use Rattle.rules.specs.Bits.{bit, flag, low_byte}
 use Rattle.sets.specs.Bits.{bit_and_lem, bit_past, bits_same}
 use Rattle.state.specs.View.{Latches}
 use Rattle.interrupts.specs.Promises.{Acknowledged}
@@ -80,12 +80,12 @@ turned (suc zero) zero e = refl
 turned (suc zero) (suc b) e = absurd (omega arith)
 turned (suc (suc a)) b e = absurd (omega arith)
 
-turned_2 : (v : ℕ) → v < 65536 → bit 2 (65535 - v) ≡ not (bit 2 (low_byte_lem v))
-unfolding bit low_byte_lem
+turned_2 : (v : ℕ) → v < 65536 → bit 2 (65535 - v) ≡ not (bit 2 (low_byte v))
+unfolding bit low_byte
 turned_2 v h = turned ((65535 - v) / 2 ^ 2 % 2) (v % 256 / 2 ^ 2 % 2) (omega arith)
 
-turned_4 : (v : ℕ) → v < 65536 → bit 4 (65535 - v) ≡ not (bit 4 (low_byte_lem v))
-unfolding bit low_byte_lem
+turned_4 : (v : ℕ) → v < 65536 → bit 4 (65535 - v) ≡ not (bit 4 (low_byte v))
+unfolding bit low_byte
 turned_4 v h = turned ((65535 - v) / 2 ^ 4 % 2) (v % 256 / 2 ^ 4 % 2) (omega arith)
 
 pub acknowledged : (v x : ℕ) → v < 65536 → Latches x → Acknowledged v x (bit_and x (65535 - v))

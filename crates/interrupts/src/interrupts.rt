@@ -1,6 +1,6 @@
 // Interrupt status, EPH, acknowledge, and the line.
 ghost use Rattle.std.specs.Prelude.{◌≡◌, ◌&&◌, ◌||◌, List, ℕ, ◌+◌, ◌*◌, ◌<◌, length};
-ghost use Rattle.rules.specs.Bits.{bit, flag, word_of_lem};
+ghost use Rattle.rules.specs.Bits.{bit, flag, word_of};
 ghost use Rattle.rules.specs.Chip.{Layout};
 ghost use Rattle.rules.specs.Interrupts as rules;
 ghost use Rattle.rules.specs.Registers.{INTERRUPT, lanes_at, write_register};
@@ -85,7 +85,7 @@ pub fn line_up(words: &[u16]) -> bool
 // Interrupt status, and the mask above it.
 pub fn interrupt(words: &[u16]) -> u16
     requires { Kept words.now × ((q : List ℕ) × QueuesIn (figures words.now) q) }
-    ensures { (l : Layout) (s q mem : List ℕ) → QueuesIn (figures words.now) q → result ≡ word_of_lem (rules.status (view_of l words.now s q mem)) (registers_in words.now).mask }
+    ensures { (l : Layout) (s q mem : List ℕ) → QueuesIn (figures words.now) q → result ≡ word_of (rules.status (view_of l words.now s q mem)) (registers_in words.now).mask }
 {
     status(words) + words[INTERRUPT]
 }

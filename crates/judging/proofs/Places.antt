@@ -9,7 +9,7 @@ use borrow.Author.Tests.{eq-eqb, ne_eqb}
 use lib.Dec.{eqb}
 use lib.ListN.{length, get_or}
 use lib.Pow.{mod-mod-pow, field}
-use Rattle.rules.specs.Bits.{bit, word_of_lem}
+use Rattle.rules.specs.Bits.{bit, word_of}
 use Rattle.rules.specs.Crc.{four_bytes}
 use Rattle.rules.specs.Receive.{same_bytes, in_table}
 use Rattle.sets.specs.Bits.{bit_shr}
@@ -20,8 +20,8 @@ use Rattle.state.specs.Written.{Written, written_out}
 abbrev pub Pair : ℕ → ℕ → ℕ → Bool
 Pair low high x = eqb low (x % 256) && eqb high (x / 256)
 
-pub pair_word : (low high x : ℕ) → low < 256 → eqb (word_of_lem low high) x ≡ Pair low high x
-unfolding word_of_lem
+pub pair_word : (low high x : ℕ) → low < 256 → eqb (word_of low high) x ≡ Pair low high x
+unfolding word_of
 pair_word low high x h = go (ℕ_discrete low (x % 256)) (ℕ_discrete high (x / 256))
   where
     go : Dec (low ≡ x % 256) → Dec (high ≡ x / 256) → eqb (low + high * 256) x ≡ Pair low high x

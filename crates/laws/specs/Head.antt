@@ -1,7 +1,7 @@
 -- The packet at the head of TX, which a send sends, and its bytes one by one: what a driver wrote there, and not how the rules read it.
 use Rattle.std.specs.Prelude.{◌≡◌, List, ℕ, ◌+◌, ◌-◌, ◌*◌, ◌/◌, ◌%◌, get_or}
 use Rattle.std.proofs.Common.{arith}
-use Rattle.rules.specs.Bits.{word_of_lem, word_at}
+use Rattle.rules.specs.Bits.{word_of, word_at}
 use Rattle.rules.specs.Chip.{Chip, pages_at}
 use Rattle.rules.specs.Packet.{place, get_bytes}
 use Rattle.rules.specs.Send.{byte_count}
@@ -30,5 +30,5 @@ head_control c = control_at (head_pages c) c.memory
 
 -- The count as the rules name it.
 pub count_is : (pages memory : List ℕ) → byte_count pages memory ≡ count_at pages memory
-unfolding byte_count word_at word_of_lem get_bytes place
+unfolding byte_count word_at word_of get_bytes place
 count_is pages memory = omega arith

@@ -2,7 +2,7 @@
 use Rattle.std.specs.Prelude.{◌≡◌, Bool, true, false, ℕ}
 use Rattle.std.proofs.Math.Path.{refl}
 use Rattle.std.proofs.Common.{ap, sym, ◌∙◌, true≢false}
-use Rattle.rules.specs.Bits.{bit, low_byte_lem}
+use Rattle.rules.specs.Bits.{bit, low_byte}
 use Rattle.rules.specs.Chip.{Layout, Chip, size}
 use Rattle.rules.specs.Answers.{Effect, Turn}
 use Rattle.rules.specs.Tests.{fit}
@@ -32,7 +32,7 @@ module _ (c : Chip) where
   writes RESERVED p v = by_lanes c LaidIn p _ refl refl
   writes (STATION k) p v = refl
   writes CONTROL p v = refl
-  writes COMMAND p v = by_lanes c LaidIn p _ refl (performs c (decode (low_byte_lem v))).0
+  writes COMMAND p v = by_lanes c LaidIn p _ refl (performs c (decode (low_byte v))).0
   writes PACKET p v = by_lanes c LaidIn p _ refl refl
   writes HEADS p v = refl
   writes POINTER p v = refl

@@ -1,7 +1,7 @@
 -- The page ledger: what a driver can know of the pages granted and given back, counted since power-up or the last soft or MMU reset.
 -- Nothing here looks at a page list, a free count or the request that waits: only at registers, at the ends of RX and TX (which a driver knows from what it enqueued and drained), at lengths and at replies.
 use Rattle.std.specs.Prelude.{◌≡◌, cond, List, [], ◌∷◌, ℕ, ◌+◌, eqb, length, get_or, set, replicate}
-use Rattle.rules.specs.Bits.{bit, low_byte_lem}
+use Rattle.rules.specs.Bits.{bit, low_byte}
 use Rattle.rules.specs.Chip.{Chip}
 use Rattle.rules.specs.Answers.{Turn}
 use Rattle.rules.specs.Mmu.{Command, nothing, allocate, reset, remove_rx, remove_and_release, release, enqueue, reset_tx, unknown, decode}
@@ -55,7 +55,7 @@ command_entries unknown c d = []
 
 -- A write that was done: a command, or a soft reset where RCR bit 15 is left set.
 unfoldable pub write_entries : Register → ℕ → Chip → Chip → List Entry
-write_entries COMMAND v c d = command_entries (decode (low_byte_lem v)) c d
+write_entries COMMAND v c d = command_entries (decode (low_byte v)) c d
 write_entries RCR v c d = cond (bit 15 d.regs.receiving.rcr) (just restarts) []
 write_entries TCR v c d = []
 write_entries EPHSR v c d = []

@@ -4,7 +4,7 @@ use Rattle.std.proofs.Math.Path.{refl}
 use Rattle.std.proofs.Common.{ap, ⊎_elim, arith}
 use Rattle.std.specs.Bool.{xor}
 use Rattle.std.proofs.Math.Logic.{inl, inr}
-use Rattle.rules.specs.Bits.{bit, low_byte_lem}
+use Rattle.rules.specs.Bits.{bit, low_byte}
 use Rattle.rules.specs.Chip.{Link, Registers, Chip}
 use Rattle.rules.specs.Fields.{in_registers}
 use Rattle.rules.specs.Answers.{Effect, Turn, leaving}
@@ -81,7 +81,7 @@ module _ (c : Chip) where
   writes RESERVED p v = inl (by_lanes c SameIn p _ refl refl)
   writes (STATION k) p v = inl refl
   writes CONTROL p v = inr (tt, refl)
-  writes COMMAND p v = inl (by_lanes c SameIn p _ refl (performs c (decode (low_byte_lem v))).1)
+  writes COMMAND p v = inl (by_lanes c SameIn p _ refl (performs c (decode (low_byte v))).1)
   writes PACKET p v = inl (by_lanes c SameIn p _ refl refl)
   writes HEADS p v = inl refl
   writes POINTER p v = inl refl

@@ -3,7 +3,7 @@ use Rattle.std.specs.Prelude.{◌≡◌, Bool, true, false, not, ℕ, ◌+◌, �
 use Rattle.std.proofs.Common.{ap, sym, subst, ◌∙◌, arith, eq-eqb, shr-shr}
 use Rattle.std.proofs.Math.Decide.{dec_le}
 use Rattle.std.proofs.Math.Pow.{mod-mod-pow, field}
-use Rattle.rules.specs.Bits.{bit, clear_bit, flag, low_byte_lem, high_byte, word_of_lem}
+use Rattle.rules.specs.Bits.{bit, clear_bit, flag, low_byte, high_byte, word_of}
 use Rattle.rules.specs.Lists.{some?}
 use Rattle.rules.specs.Chip.{Link, Chip}
 use Rattle.rules.specs.Interrupts.{eph, status}
@@ -79,11 +79,11 @@ shown_high up down e = stored up ∙ sym (stored down)
         (high_below (shown b e) ∙ ap (λ (x : ℕ). x / 256) (shown_below b e) ∙ sym (high_below e))
 
 -- and in its low byte without exception.
-pub shown_low : (up down : Bool) (e : ℕ) → low_byte_lem (shown up e) ≡ low_byte_lem (shown down e)
-unfolding shown clear_bit flag low_byte_lem
+pub shown_low : (up down : Bool) (e : ℕ) → low_byte (shown up e) ≡ low_byte (shown down e)
+unfolding shown clear_bit flag low_byte
 shown_low up down e = stored up ∙ sym (stored down)
   where
-    stored : (b : Bool) → low_byte_lem (shown b e) ≡ low_byte_lem e
+    stored : (b : Bool) → low_byte (shown b e) ≡ low_byte e
     stored true = omega arith
     stored false = omega arith
 
@@ -112,9 +112,9 @@ five_bits c =
     )
 
 -- EPH above these five bits is bit 5 alone, with the mask behind them or without.
-eph_alone : (p : Lanes) (x m : ℕ) (b : Bool) → x < 32 → beside_link INTERRUPT p (taken p (word_of_lem (x + 32 * flag b) m)) ≡ beside_link INTERRUPT p (taken p (word_of_lem x m))
-unfolding taken word_of_lem clear_bit low_byte_lem high_byte flag
-eph_alone p x m false h = ap (λ (z : ℕ). beside_link INTERRUPT p (taken p (word_of_lem z m))) (omega arith)
+eph_alone : (p : Lanes) (x m : ℕ) (b : Bool) → x < 32 → beside_link INTERRUPT p (taken p (word_of (x + 32 * flag b) m)) ≡ beside_link INTERRUPT p (taken p (word_of x m))
+unfolding taken word_of clear_bit low_byte high_byte flag
+eph_alone p x m false h = ap (λ (z : ℕ). beside_link INTERRUPT p (taken p (word_of z m))) (omega arith)
 eph_alone low x m true h =
     let e : (x + 32 * 1 + m * 256) % 256 ≡ x + 32 = omega arith in
     let f : (x + m * 256) % 256 ≡ x = omega arith in
@@ -124,7 +124,7 @@ eph_alone both x m true h = omega arith
 
 -- The interrupt register on both.
 pub interrupt_beside : (p : Lanes) (y : Link) (c : Chip)
-    → beside_link INTERRUPT p (taken p (word_of_lem (status (linked y c)) c.regs.mask)) ≡ beside_link INTERRUPT p (taken p (word_of_lem (status c) c.regs.mask))
+    → beside_link INTERRUPT p (taken p (word_of (status (linked y c)) c.regs.mask)) ≡ beside_link INTERRUPT p (taken p (word_of (status c) c.regs.mask))
 unfolding status
 interrupt_beside p y c =
     eph_alone p (but_eph c) c.regs.mask (eph (linked y c).regs) (five_bits c) ∙ sym (eph_alone p (but_eph c) c.regs.mask (eph c.regs) (five_bits c))

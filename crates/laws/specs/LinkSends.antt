@@ -3,7 +3,7 @@ use Rattle.std.specs.Prelude.{◌≡◌, Bool, true, false, not, ℕ, zero, suc,
 use Rattle.std.proofs.Math.Path.{refl}
 use Rattle.std.proofs.Common.{ap}
 use mathlib.Core.List.{List, [], ◌∷◌}
-use Rattle.rules.specs.Bits.{bit, clear_bit, low_byte_lem, high_byte}
+use Rattle.rules.specs.Bits.{bit, clear_bit, low_byte, high_byte}
 use Rattle.rules.specs.Lists.{some?}
 use Rattle.rules.specs.Chip.{Link, Chip, pages_at}
 use Rattle.rules.specs.Fields.{set_link, set_tx, in_registers, in_pool}
@@ -30,10 +30,10 @@ cleared_alike (z ∷ zs) (suc i) x y e = ap (λ (l : List ℕ). z ∷ l) (cleare
 
 -- Two status words written into the same pages, alike but for bit 14.
 words_alike : (up down : Bool) (e : ℕ) (pages m : List ℕ)
-    → but_word pages (put_bytes (low_byte_lem (shown up e) ∷ high_byte (shown up e) ∷ []) 0 pages m) ≡ but_word pages (put_bytes (low_byte_lem (shown down e) ∷ high_byte (shown down e) ∷ []) 0 pages m)
+    → but_word pages (put_bytes (low_byte (shown up e) ∷ high_byte (shown up e) ∷ []) 0 pages m) ≡ but_word pages (put_bytes (low_byte (shown down e) ∷ high_byte (shown down e) ∷ []) 0 pages m)
 unfolding put_bytes place
 words_alike up down e pages m =
-    rw (shown_low up down e) (cleared_alike (set m (place pages 0) (low_byte_lem (shown down e))) (place pages 1) (high_byte (shown up e)) (high_byte (shown down e)) (shown_high up down e))
+    rw (shown_low up down e) (cleared_alike (set m (place pages 0) (low_byte (shown down e))) (place pages 1) (high_byte (shown up e)) (high_byte (shown down e)) (shown_high up down e))
 
 -- a chip with this link and this memory
 abbrev dressed : Link → List ℕ → Chip → Chip
@@ -57,7 +57,7 @@ retires_alike y released k e pages d =
     (ap (λ (m : List ℕ). dressed y m (retire released k d)) (words_alike y.up d.regs.link.up e pages d.memory))
   where
     noted : Bool → List ℕ
-    noted up = put_bytes (low_byte_lem (shown up e) ∷ high_byte (shown up e) ∷ []) 0 pages d.memory
+    noted up = put_bytes (low_byte (shown up e) ∷ high_byte (shown up e) ∷ []) 0 pages d.memory
 
 -- the two turns of a send whose packet has these pages: the replies and what is put out agree, and the chips but for the link and, where it is done, bit 14 of the status word
 pub record Turns (pages : List ℕ) (t u : Turn) : Type 0 where

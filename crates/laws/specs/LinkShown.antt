@@ -2,7 +2,7 @@
 use Rattle.std.specs.Prelude.{◌≡◌, Bool, false, not, List, [], ◌∷◌, ℕ, ◌*◌, ◌/◌, ◌%◌, ◌^◌, ◌≤◌, eqb, length, get_or}
 use Rattle.std.proofs.Common.{ap, sym, subst, ◌∙◌, true≢false, arith}
 use Rattle.std.proofs.Math.Bool.{true}
-use Rattle.rules.specs.Bits.{bit, low_byte_lem, high_byte}
+use Rattle.rules.specs.Bits.{bit, low_byte, high_byte}
 use Rattle.rules.specs.Lists.{some?}
 use Rattle.rules.specs.Chip.{Link, Chip, pages_at, page_numbers}
 use Rattle.rules.specs.Fields.{set_tx, in_registers, in_pool}
@@ -26,7 +26,7 @@ status_shows_link n s out c = shown_bit _ _ ∙ ap (λ (x : Link). x.up) (send_l
 
 -- "EPHSR is written to addresses 0 and 1.": the status word in these pages is EPHSR as it is shown
 abbrev pub Noted : List ℕ → Chip → Type 0
-Noted pages d = (byte_at pages d.memory 0 ≡ low_byte_lem (shown_ephsr d.regs)) × (byte_at pages d.memory 1 ≡ high_byte (shown_ephsr d.regs))
+Noted pages d = (byte_at pages d.memory 0 ≡ low_byte (shown_ephsr d.regs)) × (byte_at pages d.memory 1 ≡ high_byte (shown_ephsr d.regs))
 
 -- A word put into pages that lie in memory is there.
 word_put : (x y : ℕ) (pages memory : List ℕ) → Placed pages memory → 2 ≤ 256 * length pages
@@ -38,7 +38,7 @@ word_put x y pages memory p h =
 -- Written before the packet retires, which leaves it and EPHSR.
 retires_noted : (released : Bool) (k : ℕ) (pages : List ℕ) (d : Chip) → Placed pages d.memory → 2 ≤ 256 * length pages → Noted pages (retire released k (status_written pages (shown_ephsr d.regs) d))
 retires_noted released k pages d p h =
-    let w = word_put (low_byte_lem (shown_ephsr d.regs)) (high_byte (shown_ephsr d.regs)) pages d.memory p h in
+    let w = word_put (low_byte (shown_ephsr d.regs)) (high_byte (shown_ephsr d.regs)) pages d.memory p h in
     pick (Noted pages) released (by_settle (Noted pages) _ (λ e. w) (λ e. w)) w
 
 -- An allocated packet has room for it.

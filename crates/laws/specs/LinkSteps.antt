@@ -2,7 +2,7 @@
 use Rattle.std.specs.Prelude.{◌≡◌, Bool, cond, not, List, [], ◌∷◌, ℕ, leb, ltb, length}
 use Rattle.std.proofs.Math.Path.{refl}
 use Rattle.std.proofs.Math.Bool.{true, false}
-use Rattle.rules.specs.Bits.{bit, low_byte_lem}
+use Rattle.rules.specs.Bits.{bit, low_byte}
 use Rattle.rules.specs.Chip.{Link, Registers, Chip, pages_at, allocated, free}
 use Rattle.rules.specs.Fields.{in_registers}
 use Rattle.rules.specs.Answers.{Reply, Effect, did}
@@ -144,7 +144,7 @@ module _ (y : Link) where
     writes RESERVED p v = by_lanes_both p _ _ (as_is _ _)
     writes (STATION k) p v = as_is _ _
     writes CONTROL p v = both_did refl
-    writes COMMAND p v = by_lanes_both p _ _ (performs (decode (low_byte_lem v)))
+    writes COMMAND p v = by_lanes_both p _ _ (performs (decode (low_byte v)))
     writes PACKET p v = by_lanes_both p _ _ (as_is _ _)
     writes HEADS p v = as_is _ c
     writes POINTER p v = as_is _ _

@@ -1,7 +1,7 @@
 -- Demand 3 is about something: a driver fills a packet, and two frames are stored meanwhile, on a chip that is well formed. Computed.
 use Rattle.std.specs.Prelude.{◌≡◌, refl, List, [], ◌∷◌, map, ℕ, get_or, replicate}
 use Rattle.std.proofs.lemmas.List.{length-replicate}
-use Rattle.rules.specs.Bits.{bit, set_bit, clear_bit, flag, low_byte_lem, high_byte, word_of_lem}
+use Rattle.rules.specs.Bits.{bit, set_bit, clear_bit, flag, low_byte, high_byte, word_of}
 use Rattle.rules.specs.Lists.{member, some?, owned, unless, free_below, first_empty}
 use Rattle.rules.specs.Parts.{lan91c96}
 use Rattle.rules.specs.Chip.{paged, Chip, powered}
@@ -45,7 +45,7 @@ unfolding bit member some? owned above ascends all_below apart none_owned pages_
 listening_whole = ((formed_decides lan91c96 listening).sound refl, length-replicate {A = ℕ} 6144 0)
 
 pub filling_loads : Loads listening listening filling
-unfolding bit low_byte_lem high_byte word_of_lem member some? place put_bytes address advance next if_packet against odd_fixed past if_open write_data register_at misplaced lanes_at merged bytes_of low_only write_register access
+unfolding bit low_byte high_byte word_of member some? place put_bytes address advance next if_packet against odd_fixed past if_open write_data register_at misplaced lanes_at merged bytes_of low_only write_register access
 filling_loads = (to_bank refl, (to_packet refl, (to_pointer refl, (to_data refl refl refl, tt))))
 
 -- what is seen of the run: all is done, and both frames are stored (value 0); they are packets 1 and 2 of RX; the word stands in packet 0, and the second frame's first byte in page 2
@@ -56,7 +56,7 @@ pub record Seen : Type 0 where
   pub stored : ℕ
 
 unfoldable pub seen : Seen
-unfolding bit set_bit clear_bit flag low_byte_lem high_byte word_of_lem member some? owned unless free_below first_empty above ascends all_below apart none_owned pages_good laid_good queue_good queues_good numbers_good request_good formed fit place get_bytes put_bytes crc_bit crc_bits crc_from crc hash mirror fcs_word four_bytes same_bytes bad_crc broadcast group in_table accepted data_length count_of pages_for needed value_for dropped judge group_bits frame_status trailer image after arrive address advance next if_packet against odd_fixed past if_open write_data register_at misplaced lanes_at merged bytes_of low_only write_register access serve step_of run_of
+unfolding bit set_bit clear_bit flag low_byte high_byte word_of member some? owned unless free_below first_empty above ascends all_below apart none_owned pages_good laid_good queue_good queues_good numbers_good request_good formed fit place get_bytes put_bytes crc_bit crc_bits crc_from crc hash mirror fcs_word four_bytes same_bytes bad_crc broadcast group in_table accepted data_length count_of pages_for needed value_for dropped judge group_bits frame_status trailer image after arrive address advance next if_packet against odd_fixed past if_open write_data register_at misplaced lanes_at merged bytes_of low_only write_register access serve step_of run_of
 seen =
     let x = run_of lan91c96 mixed listening in
     let c = x.chip in

@@ -1,6 +1,6 @@
 -- Why `Loads` asks what it asks: without any one of its three conditions an access is answered by its order with a frame. Computed on the LAN91C96. (`Meanwhile` has loads that meet them.)
 use Rattle.std.specs.Prelude.{◌≡◌, refl, List, [], ◌∷◌, ℕ}
-use Rattle.rules.specs.Bits.{bit, set_bit, clear_bit, flag, low_byte_lem, high_byte, word_of_lem}
+use Rattle.rules.specs.Bits.{bit, set_bit, clear_bit, flag, low_byte, high_byte, word_of}
 use Rattle.rules.specs.Lists.{member, some?, owned, unless, free_below, first_empty}
 use Rattle.rules.specs.Parts.{lan91c96}
 use Rattle.rules.specs.Chip.{paged, Chip, powered}
@@ -21,7 +21,7 @@ listening p = in_registers (λ r. set_rcr 0x0100 (set_bank 2 (set_pointer p r)))
 
 -- the answers of a run on that chip
 unfoldable pub answers : ℕ → List Input → List Reply
-unfolding bit set_bit clear_bit flag low_byte_lem high_byte word_of_lem member some? owned unless free_below first_empty above ascends all_below apart none_owned pages_good laid_good queue_good queues_good numbers_good request_good formed fit place get_bytes put_bytes crc_bit crc_bits crc_from crc hash mirror fcs_word four_bytes same_bytes bad_crc broadcast group in_table accepted data_length count_of pages_for needed value_for dropped judge group_bits frame_status trailer image after arrive address advance next if_packet against odd_fixed past if_open value_of read_data register_at misplaced lanes_at taken width head_of read_register access serve step_of run_of
+unfolding bit set_bit clear_bit flag low_byte high_byte word_of member some? owned unless free_below first_empty above ascends all_below apart none_owned pages_good laid_good queue_good queues_good numbers_good request_good formed fit place get_bytes put_bytes crc_bit crc_bits crc_from crc hash mirror fcs_word four_bytes same_bytes bad_crc broadcast group in_table accepted data_length count_of pages_for needed value_for dropped judge group_bits frame_status trailer image after arrive address advance next if_packet against odd_fixed past if_open value_of read_data register_at misplaced lanes_at taken width head_of read_register access serve step_of run_of
 answers p inputs = (run_of lan91c96 inputs (listening p)).replies
 
 -- x answers the access where it comes before the frame, y where it comes after; the frame is stored and answered by 0 both times

@@ -1,8 +1,8 @@
 -- Document 02, W9, the LAN91C94, computed: what a driver reads on a chip of 18 pages and packets, and how the bench is asked for a part. (The laws are over any n, so this part has them too.)
 use Rattle.std.specs.Prelude.{◌≡◌, refl, List, [], ◌∷◌, ◌++◌, map, ℕ}
-use Rattle.rules.specs.Bits.{bit, low_byte_lem, high_byte, word_of_lem}
+use Rattle.rules.specs.Bits.{bit, low_byte, high_byte, word_of}
 use Rattle.rules.specs.Lists.{member, some?, owned, unless, free_below, total, up_from, first_empty}
-use Rattle.rules.specs.Parts.{lan91c94, part_of_lem, part_named}
+use Rattle.rules.specs.Parts.{lan91c94, part_of, part_named}
 use Rattle.rules.specs.Chip.{paged, powered}
 use Rattle.rules.specs.Answers.{Reply, done, refusal}
 use Rattle.rules.specs.Tests.{above, ascends, all_below, apart, none_owned, pages_good, goes_up, own_good, laid_good, queue_good, queues_good, numbers_good, request_good, formed, fit}
@@ -51,7 +51,7 @@ abbrev pub rows : List Row
 rows = at_first ++ all_taken ++ awaited ++ past_the_last ++ reset_again
 
 pub of_eighteen : (run_of lan91c94 (map (λ (r : Row). driver r.asked) rows) (powered paged lan91c94)).replies ≡ map (λ (r : Row). r.reply) rows
-unfolding bit low_byte_lem high_byte word_of_lem member some? owned unless free_below first_empty above ascends all_below apart none_owned pages_good laid_good queue_good queues_good numbers_good request_good formed fit decode perform due settle register_at misplaced lanes_at taken low_only read_register write_register access serve step_of run_of
+unfolding bit low_byte high_byte word_of member some? owned unless free_below first_empty above ascends all_below apart none_owned pages_good laid_good queue_good queues_good numbers_good request_good formed fit decode perform due settle register_at misplaced lanes_at taken low_only read_register write_register access serve step_of run_of
 of_eighteen = refl
 
 -- a record that reads MIR's word, in bank 0
@@ -63,12 +63,12 @@ pub asked_for :
     (bench (record8 (0x09 ∷ 0x94 ∷ []) ++ mir) ≡ says 1 0 0x0000 ++ says 2 0 0x1212)
     × (bench (record8 (0x09 ∷ 0x96 ∷ []) ++ mir) ≡ says 1 0 0x0000 ++ says 2 0 0x1818)
     × (strip_bench (record8 (0x09 ∷ 0x94 ∷ []) ++ mir) ≡ says 1 0 0x0000 ++ says 2 0 0x1212)
-unfolding bit word_of_lem member owned unless free_below total up_from ascends all_below apart none_owned pages_good goes_up own_good laid_good queue_good queues_good numbers_good request_good formed fit register_at misplaced lanes_at taken read_register access serve part_of_lem part_named step_of event_of answer asks_for answer_first answer_to decimal_in hex4 line printed
+unfolding bit word_of member owned unless free_below total up_from ascends all_below apart none_owned pages_good goes_up own_good laid_good queue_good queues_good numbers_good request_good formed fit register_at misplaced lanes_at taken read_register access serve part_of part_named step_of event_of answer asks_for answer_first answer_to decimal_in hex4 line printed
 asked_for = (refl, refl, refl)
 
 -- "kind 9 later on, or with another byte, gets 11", and the part stays: "without it, the LAN91C96"
 pub not_asked_for :
     (bench (record8 (0x09 ∷ 0x95 ∷ []) ++ mir) ≡ says 1 11 0x0000 ++ says 2 0 0x1818)
     × (bench (mir ++ record8 (0x09 ∷ 0x94 ∷ []) ++ mir) ≡ says 1 0 0x1818 ++ says 2 11 0x0000 ++ says 3 0 0x1818)
-unfolding bit word_of_lem member owned unless free_below ascends all_below apart none_owned pages_good laid_good queue_good queues_good numbers_good request_good formed fit register_at misplaced lanes_at taken read_register access serve part_of_lem part_named step_of event_of answer asks_for answer_first answer_to decimal_in hex4 line printed
+unfolding bit word_of member owned unless free_below ascends all_below apart none_owned pages_good laid_good queue_good queues_good numbers_good request_good formed fit register_at misplaced lanes_at taken read_register access serve part_of part_named step_of event_of answer asks_for answer_first answer_to decimal_in hex4 line printed
 not_asked_for = (refl, refl)

@@ -4,7 +4,7 @@ use Rattle.std.specs.Prelude.{◌≡◌, cond, List, [], ◌∷◌, ℕ, eqb, le
 use Rattle.std.proofs.Math.Path.{refl}
 use Rattle.std.proofs.Common.{ap, sym, ◌∙◌, true≢false}
 use Rattle.std.proofs.Math.Bool.{true, false}
-use Rattle.rules.specs.Bits.{low_byte_lem}
+use Rattle.rules.specs.Bits.{low_byte}
 use Rattle.rules.specs.Lists.{member}
 use Rattle.rules.specs.Chip.{Chip, pages_at, free}
 use Rattle.rules.specs.Answers.{Reply, Effect, Turn, refusal_with, refuse, refused_with, leaving}
@@ -106,7 +106,7 @@ module _ (c : Chip) where
   writes RESERVED p v = low_alone p _ (answers refl)
   writes (STATION k) p v = answers refl
   writes CONTROL p v = answers refl
-  writes COMMAND p v = low_alone p _ (performs (decode (low_byte_lem v)))
+  writes COMMAND p v = low_alone p _ (performs (decode (low_byte v)))
   writes PACKET p v = low_alone p _ (answers refl)
   writes HEADS p v = read_only
   writes POINTER p v = answers refl

@@ -52,8 +52,8 @@ above_none (suc n) x y r =
     let high : (x + 2 ^ suc n * y) / 2 ≡ x / 2 + 2 ^ n * y = omega (arith, twice) in
     rw (low, high) (above_none n (x / 2) y (crc_bit (x % 2) r))
 
-low_byte : (x r : ℕ) → crc_bits 8 (x % 256) r ≡ crc_bits 8 x r
-low_byte x r = let all : x ≡ x % 256 + 2 ^ 8 * (x / 256) = omega arith in sym (ap (λ (y : ℕ). crc_bits 8 y r) all ∙ above_none 8 (x % 256) (x / 256) r)
+low_byte_lem : (x r : ℕ) → crc_bits 8 (x % 256) r ≡ crc_bits 8 x r
+low_byte_lem x r = let all : x ≡ x % 256 + 2 ^ 8 * (x / 256) = omega arith in sym (ap (λ (y : ℕ). crc_bits 8 y r) all ∙ above_none 8 (x % 256) (x / 256) r)
 
 first_byte : (n x r : ℕ) → crc_bits (suc (suc (suc (suc (suc (suc (suc (suc n)))))))) x r ≡ crc_bits n (x / 2 ^ 8) (crc_bits 8 x r)
 unfolding crc_bits
@@ -67,7 +67,7 @@ word_comes_in w r =
     let c = crc_bits 8 (w / 2 ^ 16) b in
     let third : w / 2 ^ 8 / 2 ^ 8 ≡ w / 2 ^ 16 = omega arith in
     let fourth : w / 2 ^ 16 / 2 ^ 8 ≡ w / 2 ^ 24 = omega arith in
-    rw (low_byte w r, low_byte (w / 2 ^ 8) a, low_byte (w / 2 ^ 16) b, low_byte (w / 2 ^ 24) c)
+    rw (low_byte_lem w r, low_byte_lem (w / 2 ^ 8) a, low_byte_lem (w / 2 ^ 16) b, low_byte_lem (w / 2 ^ 24) c)
     (sym
     (first_byte 24 w r ∙ first_byte 16 (w / 2 ^ 8) a ∙ ap (λ (y : ℕ). crc_bits 16 y b) third ∙ first_byte 8 (w / 2 ^ 16) b
     ∙ ap (λ (y : ℕ). crc_bits 8 y c) fourth))
@@ -100,14 +100,14 @@ to_residue bytes =
 abbrev word_from : List ℕ → ℕ
 word_from l = get_or l 0 0 + 2 ^ 8 * get_or l 1 0 + 2 ^ 16 * get_or l 2 0 + 2 ^ 24 * get_or l 3 0
 
-word_of : (d : List ℕ) → length d ≡ 4 → ((j : ℕ) → get_or d j 0 < 256) → four_bytes (word_from d) ≡ d
+word_of_lem : (d : List ℕ) → length d ≡ 4 → ((j : ℕ) → get_or d j 0 < 256) → four_bytes (word_from d) ≡ d
 unfolding four_bytes
-word_of [] h small = absurd (omega arith)
-word_of (x ∷ []) h small = absurd (omega arith)
-word_of (x ∷ y ∷ []) h small = absurd (omega arith)
-word_of (x ∷ y ∷ z ∷ []) h small = absurd (omega arith)
-word_of (x ∷ y ∷ z ∷ u ∷ v ∷ more) h small = absurd (omega arith)
-word_of (x ∷ y ∷ z ∷ u ∷ []) h small =
+word_of_lem [] h small = absurd (omega arith)
+word_of_lem (x ∷ []) h small = absurd (omega arith)
+word_of_lem (x ∷ y ∷ []) h small = absurd (omega arith)
+word_of_lem (x ∷ y ∷ z ∷ []) h small = absurd (omega arith)
+word_of_lem (x ∷ y ∷ z ∷ u ∷ v ∷ more) h small = absurd (omega arith)
+word_of_lem (x ∷ y ∷ z ∷ u ∷ []) h small =
     let w = x + 2 ^ 8 * y + 2 ^ 16 * z + 2 ^ 24 * u in
     let second : w / 2 ^ 8 ≡ y + 2 ^ 8 * (z + 2 ^ 8 * u) = omega (arith, small 0) in
     let third : w / 2 ^ 16 ≡ z + 2 ^ 8 * u = omega (arith, small 0, small 1) in
@@ -121,7 +121,7 @@ word_of (x ∷ y ∷ z ∷ u ∷ []) h small =
 from_residue : (bytes d : List ℕ) → length d ≡ 4 → ((j : ℕ) → get_or d j 0 < 256) → crc_from (crc bytes) d ≡ residue → d ≡ fcs bytes
 unfolding fcs_word
 from_residue bytes d h small e =
-    let back = word_of d h small in
+    let back = word_of_lem d h small in
     let same = same_bits 32 0 (word_from d) (fcs_word bytes) (crc bytes) refl (omega (arith, small 0, small 1, small 2, small 3)) (mirror_lt 32 (0xffffffff - crc bytes)) (crc_lt bytes)
     (sym (word_comes_in (word_from d) (crc bytes)) ∙ ap (crc_from (crc bytes)) back ∙ e ∙ sym (to_residue bytes) ∙ word_comes_in (fcs_word bytes) (crc bytes)) in
     sym back ∙ ap four_bytes same

@@ -1,7 +1,7 @@
 -- Which steps are a soft or an MMU reset to the ledger: all that document 01 calls so, on any well-formed chip, of n packets.
 use Rattle.std.specs.Prelude.{◌≡◌, true, false, ℕ}
 use Rattle.std.proofs.Math.Path.{refl}
-use Rattle.rules.specs.Bits.{bit, low_byte_lem}
+use Rattle.rules.specs.Bits.{bit, low_byte}
 use Rattle.rules.specs.Chip.{Chip}
 use Rattle.rules.specs.Mmu.{decode, perform}
 use Rattle.rules.specs.Registers.{Width, Lanes, low, high, both, RCR, COMMAND, write, register_at, misplaced, lanes_at, new_rcr, write_rcr, low_only, write_register, access}
@@ -17,7 +17,7 @@ top_bit = refl
 -- A write that is placed, of the value v at an offset.
 module _ (n : ℕ) (c : Chip) (whole : Whole n c) (w : Width) (offset v : ℕ) (placed : misplaced w offset ≡ false) where
   -- "40h frees all pages": 40h, written to the MMU command register
-  pub mmu_reset : register_at c.regs.numbers.bank offset ≡ COMMAND → (lanes_at w offset ≡ high → ⊥) → low_byte_lem v ≡ 0x40 → Resets n (driver (write w offset v)) c
+  pub mmu_reset : register_at c.regs.numbers.bank offset ≡ COMMAND → (lanes_at w offset ≡ high → ⊥) → low_byte v ≡ 0x40 → Resets n (driver (write w offset v)) c
   unfolding entries_of input_entries write_entries command_entries serve access decode perform low_only write_register
   mmu_reset reached lane value = go (lanes_at w offset) refl
     where

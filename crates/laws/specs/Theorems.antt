@@ -4,7 +4,7 @@ use Rattle.std.proofs.Math.Path.{ap, ap₂, subst}
 use Rattle.std.proofs.Common.{sym, ◌∙◌, arith}
 use mathlib.Core.List.{List, [], ◌∷◌, ◌++◌}
 use Rattle.std.proofs.Math.ListN.{length}
-use Rattle.rules.specs.Bits.{bit, high_byte, word_of_lem}
+use Rattle.rules.specs.Bits.{bit, high_byte, word_of}
 use Rattle.rules.specs.Chip.{Layout, paged, Chip, size, free, powered}
 use Rattle.rules.specs.Fields.{set_bank, in_registers}
 use Rattle.rules.specs.Answers.{done_with, did, leaving}
@@ -50,13 +50,13 @@ module _ (n : ℕ) (small : n ≤ 128) where
     few = omega (arith, free_total c.pool.layout n c.pool.pages (good_lists w.0))
 
     read_byte_lem : c.regs.numbers.bank ≡ 0 → step_of n (driver (read byte 9)) c ≡ leaving [] (done_with (length (free c)) c)
-    unfolding serve access register_at misplaced lanes_at bit read_register taken word_of_lem high_byte
+    unfolding serve access register_at misplaced lanes_at bit read_register taken word_of high_byte
     read_byte_lem b =
         let shown : (size c + length (free c) * 256) / 256 % 256 ≡ length (free c) = omega (arith, w.0.count, few, small) in
         step_fit n (driver (read byte 9)) c w ∙ ap (λ (x : ℕ). leaving [] (read_register (register_at x 9) (lanes_at byte 9) c)) b ∙ ap (λ (x : ℕ). leaving [] (done_with x c)) shown
 
     read_word_lem : c.regs.numbers.bank ≡ 0 → step_of n (driver (read word 8)) c ≡ leaving [] (done_with (n + 256 * length (free c)) c)
-    unfolding serve access register_at misplaced lanes_at bit read_register taken word_of_lem
+    unfolding serve access register_at misplaced lanes_at bit read_register taken word_of
     read_word_lem b =
         let shown : size c + length (free c) * 256 ≡ n + 256 * length (free c) = omega (arith, w.0.count) in
         step_fit n (driver (read word 8)) c w ∙ ap (λ (x : ℕ). leaving [] (read_register (register_at x 8) (lanes_at word 8) c)) b ∙ ap (λ (x : ℕ). leaving [] (done_with x c)) shown

@@ -4,7 +4,7 @@ use Rattle.std.proofs.Common.{ap, sym, ◌∙◌, ⊎_elim, arith, lt-ltb, ne_eq
 use Rattle.std.proofs.Math.Path.{subst}
 use Rattle.std.proofs.Math.Bool.{true, false}
 use Rattle.std.proofs.Math.Dec.{eqb-suc-zero}
-use Rattle.rules.specs.Bits.{bit, low_byte_lem}
+use Rattle.rules.specs.Bits.{bit, low_byte}
 use Rattle.rules.specs.Lists.{first_empty}
 use Rattle.rules.specs.Chip.{Registers, Layout, Chip, free_for, free, allocated}
 use Rattle.rules.specs.Fields.{set_rx, in_registers, in_pool}
@@ -222,7 +222,7 @@ module _ (n : ℕ) (small : n ≤ 128) (c : Chip) (w : Fits n c) where
   told_write RESERVED p v = by_lanes c Left p _ (no still 2) stays
   told_write (STATION k) p v = stays
   told_write CONTROL p v = stays
-  told_write COMMAND p v = by_lanes c (ToldBy (λ x d. command_entries (decode (low_byte_lem v)) c d)) p _ (no (λ x d. command_entries (decode (low_byte_lem v)) c d) 2) (told_command (decode (low_byte_lem v)) (decode_valid (low_byte_lem v)))
+  told_write COMMAND p v = by_lanes c (ToldBy (λ x d. command_entries (decode (low_byte v)) c d)) p _ (no (λ x d. command_entries (decode (low_byte v)) c d) 2) (told_command (decode (low_byte v)) (decode_valid (low_byte v)))
   told_write PACKET p v = by_lanes c Left p _ (no still 2) stays
   told_write HEADS p v = stays
   told_write POINTER p v = stays

@@ -1,7 +1,7 @@
 -- Document 02, W1, "An allocation that waits": what it says of every step, from any well-formed chip with n pages (at most 128, so that no packet number reads 80h).
 use Rattle.std.specs.Prelude.{◌≡◌, refl, true, ◌⊎◌, List, [], ◌∷◌, ℕ, ◌+◌, ◌≤◌, ◌<◌, eqb, ltb, length, get_or, set, take}
 use Rattle.std.proofs.Common.{ap, sym, subst, ◌∙◌, inl, inr, ⊎_elim, arith, length-set, length-take, get_or-set_same, get_or-set_other}
-use Rattle.rules.specs.Bits.{low_byte_lem}
+use Rattle.rules.specs.Bits.{low_byte}
 use Rattle.rules.specs.Lists.{member}
 use Rattle.rules.specs.Chip.{Layout, paged, Chip, page_numbers, pages_at, free_for, free, powered}
 use Rattle.rules.specs.Answers.{Effect, Turn}
@@ -44,11 +44,11 @@ GivesBack n i c k = (rest : List Entry) × (entries_of i c (step_of n i c) ≡ r
 -- "be that a release command, remove-and-release or a good send with auto release": each that is done, on any chip.
 module _ (n : ℕ) (c : Chip) where
   module _ (w : Width) (offset v : ℕ) (reached : register_at c.regs.numbers.bank offset ≡ COMMAND) (done : (step_of n (driver (write w offset v)) c).reply.number ≡ 0) where
-    pub release_gives_back : low_byte_lem v ≡ 0xa0 → GivesBack n (driver (write w offset v)) c c.regs.numbers.packet
+    pub release_gives_back : low_byte v ≡ 0xa0 → GivesBack n (driver (write w offset v)) c c.regs.numbers.packet
     unfolding entries_of input_entries write_entries command_entries decode
     release_gives_back value = (answered c (step_of n (driver (write w offset v)) c).chip, rw (done, reached, value) refl)
 
-    pub remove_gives_back : low_byte_lem v ≡ 0x80 → GivesBack n (driver (write w offset v)) c (head_of c.pool.rx)
+    pub remove_gives_back : low_byte v ≡ 0x80 → GivesBack n (driver (write w offset v)) c (head_of c.pool.rx)
     unfolding entries_of input_entries write_entries command_entries decode
     remove_gives_back value = (answered c (step_of n (driver (write w offset v)) c).chip, rw (done, reached, value) refl)
 
@@ -195,7 +195,7 @@ module _ (n : ℕ) (small : n ≤ 128) (i : Input) (c : Chip) (w : Fits n c) whe
   no_entry_leaves_it e = still (moved e)
 
 -- "E0h leaves it"
-pub e0h_leaves_it : (n : ℕ) → n ≤ 128 → (c : Chip) → Fits n c → (w : Width) (offset v : ℕ) → register_at c.regs.numbers.bank offset ≡ COMMAND → low_byte_lem v ≡ 0xe0
+pub e0h_leaves_it : (n : ℕ) → n ≤ 128 → (c : Chip) → Fits n c → (w : Width) (offset v : ℕ) → register_at c.regs.numbers.bank offset ≡ COMMAND → low_byte v ≡ 0xe0
     → held_by (step_of n (driver (write w offset v)) c).chip ≡ held_by c
 unfolding entries_of input_entries write_entries command_entries decode
 e0h_leaves_it n small c fits w offset v reached value =

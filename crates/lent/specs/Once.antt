@@ -9,17 +9,17 @@ use Rattle.state.specs.Only.{started_once}
 use Rattle.lent.specs.Lent.{StartsPart}
 
 -- A width is known from that of the rules.
-width_back_lem : rules.Width → Width
-width_back_lem rules.byte = width.Byte
-width_back_lem rules.word = width.Word
+width_back : rules.Width → Width
+width_back rules.byte = width.Byte
+width_back rules.word = width.Word
 
-width_back : (x : Width) → width_back_lem (width_of x) ≡ x
-unfolding width_back_lem
-width_back width.Byte = refl
-width_back width.Word = refl
+width_back_lem : (x : Width) → width_back (width_of x) ≡ x
+unfolding width_back
+width_back_lem width.Byte = refl
+width_back_lem width.Word = refl
 
 pub width_once : (x y : Width) → width_of x ≡ width_of y → x ≡ y
-width_once x y e = sym (width_back x) ∙ ap width_back_lem e ∙ width_back y
+width_once x y e = sym (width_back_lem x) ∙ ap width_back e ∙ width_back_lem y
 
 -- A part at power-up: record and memory.
 pub starts_part_once : {k : ℕ} {mem w₁ s₁ q₁ mem₁ w₂ s₂ q₂ mem₂ : List ℕ} → StartsPart k mem w₁ s₁ q₁ mem₁ → StartsPart k mem w₂ s₂ q₂ mem₂ → (w₁ ≡ w₂) × (s₁ ≡ s₂) × (q₁ ≡ q₂) × (mem₁ ≡ mem₂)

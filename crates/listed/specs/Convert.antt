@@ -3,7 +3,7 @@
 use Rattle.std.specs.Prelude.{◌≡◌, List, [], ◌++◌, map, ℕ, ◌*◌, ◌-◌, ◌/◌, ◌%◌, ◌≤◌, length, take, drop, replicate}
 use Rattle.std.proofs.Common.{ap, ap₂, sym, subst, ◌∙◌, arith, take_at, drop_at}
 use Rattle.std.proofs.lemmas.List.{length-map}
-use Rattle.rules.specs.Bits.{bit, word_of_lem}
+use Rattle.rules.specs.Bits.{bit, word_of}
 use Rattle.rules.specs.Parts.{IsPart}
 use Rattle.rules.specs.Chip.{paged, Chip, Pool, free_for}
 use Rattle.rules.specs.WellFormed.{FormedAt}
@@ -151,7 +151,7 @@ module _ (x : Listed) (mem : List ℕ) (t : ListedTyped x) (o : ListedInOrder x 
         queues = all_queues r.rx r.tx r.done o.ready.queues (registers_of r) pool.pages;
         sets = record {
           part = subst IsPart (sym long) o.ready.part;
-          free = ap₂ (λ (n : ℕ) (ls : List (List ℕ)). word_of_lem n (length (free_for paged ls))) (sym (length-map pool.pages set_of)) (sym back);
+          free = ap₂ (λ (n : ℕ) (ls : List (List ℕ)). word_of n (length (free_for paged ls))) (sym (length-map pool.pages set_of)) (sym back);
           small = lists_small few pool.pages o.ready.well.pages;
         };
       };

@@ -4,7 +4,7 @@ use Rattle.std.proofs.Math.Path.{ap}
 use Rattle.std.proofs.Common.{ap₂, sym, subst, ◌∙◌, inl, inr, arith, take_at, drop_at}
 use mathlib.Core.List.{List, [], ◌∷◌, ◌++◌, map}
 use Rattle.std.proofs.lemmas.List.{length-replicate, replicate-append-replicate}
-use Rattle.rules.specs.Bits.{flag, word_of_lem, word_at}
+use Rattle.rules.specs.Bits.{flag, word_of, word_at}
 use Rattle.rules.specs.Parts.{lan91c94, lan91c96, IsPart}
 use Rattle.rules.specs.Chip.{paged, free_for, powered}
 use Rattle.rules.specs.Fields.{set_pages, in_pool}
@@ -114,7 +114,7 @@ lent_with mir = record {
 
 -- which is document 01's 1818h, or "MIR 1212h after reset"
 abbrev pub lent_power_up : ℕ → Lent
-lent_power_up n = lent_with (word_of_lem n n)
+lent_power_up n = lent_with (word_of n n)
 
 -- what power-up leaves: it is lent no output buffer
 abbrev pub listed_start : ℕ → ListedLeft
@@ -176,11 +176,11 @@ module _ {n : ℕ} (part : IsPart n) where
   all_free : length (free_for paged (replicate n [])) ≡ n
   all_free = omega (arith, free_total paged n (replicate n []) (none_lists paged n), none_total n)
 
-  mir : word_of_lem (length (map used (take n (listed_power_up n).pages))) (length (free_for paged (map used (take n (listed_power_up n).pages)))) ≡ word_of_lem n n
-  mir = ap (λ (ls : List (List ℕ)). word_of_lem (length ls) (length (free_for paged ls))) lists_empty ∙ ap₂ word_of_lem (length-replicate {A = List ℕ} n []) all_free
+  mir : word_of (length (map used (take n (listed_power_up n).pages))) (length (free_for paged (map used (take n (listed_power_up n).pages)))) ≡ word_of n n
+  mir = ap (λ (ls : List (List ℕ)). word_of (length ls) (length (free_for paged ls))) lists_empty ∙ ap₂ word_of (length-replicate {A = List ℕ} n []) all_free
 
   sets_power_up : to_sets (listed_power_up n) ≡ lent_power_up n
-  unfolding used set_of word_of_lem word_at flag
+  unfolding used set_of word_of word_at flag
   sets_power_up = ap lent_with mir
 
   pub converts_power_up : Converts (listed_power_up n) (lent_power_up n)

@@ -2,7 +2,7 @@
 use Rattle.std.specs.Prelude.{◌≡◌, refl, Bool, true, false, List, [], ◌∷◌, ℕ, ◌+◌, ◌*◌, ◌/◌, ◌%◌, ◌^◌, ◌≤◌, ◌<◌, length, get_or}
 use Rattle.std.proofs.Common.{ap₂, sym, pow_mono}
 use native.Mathlib.Omega.{arith}
-use Rattle.rules.specs.Bits.{bit, flag, word_of_lem, word_at}
+use Rattle.rules.specs.Bits.{bit, flag, word_of, word_at}
 use Rattle.rules.specs.Lists.{member, some?}
 use Rattle.rules.specs.Chip.{Registers, Pool, free_for}
 use Rattle.rules.specs.WellFormed.{Distinct, Formed}
@@ -31,20 +31,20 @@ pub record Typed (r : Registers) : Type 0 where
   pub table : Bytes r.receiving.table
 
 -- The bytes of a word of two bytes, and the latches in theirs.
-low_of : (x y : ℕ) → x < 256 → word_of_lem x y % 256 ≡ x
-unfolding word_of_lem
+low_of : (x y : ℕ) → x < 256 → word_of x y % 256 ≡ x
+unfolding word_of
 low_of x y h = omega arith
 
-high_of : (x y : ℕ) → x < 256 → word_of_lem x y / 256 ≡ y
-unfolding word_of_lem
+high_of : (x y : ℕ) → x < 256 → word_of x y / 256 ≡ y
+unfolding word_of
 high_of x y h = omega arith
 
-banked : (x : ℕ) → x < 8 → word_of_lem x 0x33 / 8 ≡ 0x660
-unfolding word_of_lem
+banked : (x : ℕ) → x < 8 → word_of x 0x33 / 8 ≡ 0x660
+unfolding word_of
 banked x h = omega arith
 
-two : (x y : ℕ) → x < 256 → y < 256 → word_of_lem x y < 65536
-unfolding word_of_lem
+two : (x y : ℕ) → x < 256 → y < 256 → word_of x y < 65536
+unfolding word_of
 two x y h g = omega arith
 
 latch_2 : (a b : Bool) → bit 2 (4 * flag a + 16 * flag b) ≡ a
@@ -118,7 +118,7 @@ module _ {n : ℕ} (few : n ≤ 32) where
       let most : 2 ^ n ≤ 2 ^ 32 = pow_mono few in
       record { count = omega (arith, few, distinct_few n l d low); lower = omega arith; upper = omega (arith, small, most) }
 
-  mir_small : (r : Registers) (p : Pool) → Formed n r p → word_of_lem (length p.pages) (length (free_for p.layout p.pages)) < 65536
+  mir_small : (r : Registers) (p : Pool) → Formed n r p → word_of (length p.pages) (length (free_for p.layout p.pages)) < 65536
   mir_small r p well = two _ _ (omega (arith, few, well.count)) (omega (arith, few, free_total p.layout n p.pages (good_lists well)))
 
 module _ (r : Registers) (t : Typed r) (p : Pool) where

@@ -8,7 +8,7 @@ use Rattle.std.proofs.lemmas.List.Edits.{sets, sets-eq}
 use Rattle.rules.specs.Lists.{member}
 use Rattle.rules.specs.Packet.{place, get_bytes, put_bytes}
 use Rattle.rules.specs.Answers.{over}
-use Rattle.rules.specs.Bits.{bit, word_of_lem, word_at}
+use Rattle.rules.specs.Bits.{bit, word_of, word_at}
 use Rattle.rules.specs.Data.{value_of}
 use Rattle.rules.specs.Receive.{count_of, trailer}
 use Rattle.lists.specs.Facts.{member_at}
@@ -90,20 +90,20 @@ length_put (x ∷ xs) a pages m = length_put xs (suc a) pages (set m (place page
 
 -- The value of one byte and of two.
 pub value_one : (a : ℕ) (pages m : List ℕ) → value_of (get_bytes 1 a pages m) ≡ get_or m (place pages a) 0
-unfolding value_of get_bytes word_of_lem
+unfolding value_of get_bytes word_of
 value_one a pages m = omega arith
 
 pub value_two : (a : ℕ) (pages m : List ℕ) → value_of (get_bytes 2 a pages m) ≡ value_of (get_bytes 1 a pages m) + value_of (get_bytes 1 (a + 1) pages m) * 256
-unfolding value_of get_bytes word_of_lem
+unfolding value_of get_bytes word_of
 value_two a pages m = rw add-one (omega arith)
 
 -- the same, as a send speaks of them
 pub value_first : (a : ℕ) (pages m : List ℕ) → value_of (get_bytes 1 a pages m) ≡ get_or (get_bytes 1 a pages m) 0 0
-unfolding value_of get_bytes word_of_lem
+unfolding value_of get_bytes word_of
 value_first a pages m = omega arith
 
 pub value_word : (a : ℕ) (pages m : List ℕ) → value_of (get_bytes 2 a pages m) ≡ word_at 0 (get_bytes 2 a pages m)
-unfolding value_of get_bytes word_of_lem word_at
+unfolding value_of get_bytes word_of word_at
 value_word a pages m = omega arith
 
 -- A part from i on that is made anew, and one of k bytes that has its front written over: nothing else changes.

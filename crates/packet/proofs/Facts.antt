@@ -9,7 +9,7 @@ use lib.Count.{ones-le}
 use lib.ListN.{length, take, drop, get_or, set, length-drop}
 use lib.Seq.{get_or-drop, length-take-le}
 use Rattle.rules.specs.Lists.{member}
-use Rattle.rules.specs.Bits.{low_byte_lem, high_byte, word_of_lem}
+use Rattle.rules.specs.Bits.{low_byte, high_byte, word_of}
 use Rattle.rules.specs.Data.{value_of}
 use Rattle.rules.specs.Packet.{place, get_bytes, put_bytes}
 use Rattle.rules.specs.Receive.{Frame, count_of, trailer, frame_status, image}
@@ -30,7 +30,7 @@ image_is f n = refl
 
 -- put in three parts
 pub put_image : {headed stored after : List ℕ} (status count n : ℕ) (bytes pages m : List ℕ) → n ≤ length bytes
-    → headed ≡ put_bytes (low_byte_lem status ∷ high_byte status ∷ low_byte_lem count ∷ high_byte count ∷ []) 0 pages m
+    → headed ≡ put_bytes (low_byte status ∷ high_byte status ∷ low_byte count ∷ high_byte count ∷ []) 0 pages m
     → stored ≡ put_bytes (take n bytes) 4 pages headed
     → after ≡ put_bytes (trailer n) (n + 4) pages stored
     → after ≡ put_bytes (image_of status count n bytes) 0 pages m
@@ -125,9 +125,9 @@ module _ (a : ℕ) (rest pages : List ℕ) (e : rest ≡ drop (a / 256) pages) w
 pub byte_at : (a i : ℕ) (pages m : List ℕ) → i ≡ place pages a → get_or m i 0 ≡ value_of (get_bytes 1 a pages m)
 byte_at a i pages m e = ap (λ (j : ℕ). get_or m j 0) e ∙ sym (value_one a pages m)
 
-pub word_of : (a : ℕ) (pages m : List ℕ) → word_of_lem (value_of (get_bytes 1 a pages m)) (value_of (get_bytes 1 (a + 1) pages m)) ≡ value_of (get_bytes 2 a pages m)
-unfolding word_of_lem
-word_of a pages m = sym (value_two a pages m)
+pub word_of_lem : (a : ℕ) (pages m : List ℕ) → word_of (value_of (get_bytes 1 a pages m)) (value_of (get_bytes 1 (a + 1) pages m)) ≡ value_of (get_bytes 2 a pages m)
+unfolding word_of
+word_of_lem a pages m = sym (value_two a pages m)
 
 -- The next address of the same page lies next in memory.
 pub place_next : (a : ℕ) (pages : List ℕ) → (a % 256 ≡ 255 → ⊥) → place pages a + 1 ≡ place pages (a + 1)

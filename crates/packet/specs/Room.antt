@@ -1,6 +1,6 @@
 -- What the functions over a packet's bytes ask of its page set and of memory, and the bytes of a stored frame.
 use Rattle.std.specs.Prelude.{◌≡◌, List, ◌∷◌, ◌++◌, ℕ, ◌+◌, ◌-◌, ◌*◌, ◌/◌, ◌%◌, ◌≤◌, length, take}
-use Rattle.rules.specs.Bits.{low_byte_lem, high_byte}
+use Rattle.rules.specs.Bits.{low_byte, high_byte}
 use Rattle.rules.specs.Receive.{trailer}
 use Rattle.lists.specs.Bytes.{Below}
 use Rattle.sets.specs.Views.{pages_of}
@@ -16,4 +16,4 @@ InPage i pages a = (n : ℕ) → Below n pages → i + (256 - a % 256) ≤ 256 *
 
 -- status, byte count, the first n bytes, and the bytes that follow them, as `image` of the rules has them
 abbrev pub image_of : ℕ → ℕ → ℕ → List ℕ → List ℕ
-image_of status count n bytes = low_byte_lem status ∷ high_byte status ∷ low_byte_lem count ∷ high_byte count ∷ (take n bytes ++ trailer n)
+image_of status count n bytes = low_byte status ∷ high_byte status ∷ low_byte count ∷ high_byte count ∷ (take n bytes ++ trailer n)

@@ -1,7 +1,7 @@
 // A byte or a word at an address of a packet.
 ghost use Rattle.std.specs.Prelude.{◌≡◌, [], ◌∷◌, ◌+◌, ◌-◌, ◌*◌, ◌%◌, ◌≤◌, ◌<◌, length};
 ghost use Rattle.std.proofs.lemmas.List.Edits.{sets};
-ghost use Rattle.rules.specs.Bits.{low_byte_lem, high_byte};
+ghost use Rattle.rules.specs.Bits.{low_byte, high_byte};
 ghost use Rattle.rules.specs.Packet.{place, get_bytes, put_bytes};
 ghost use Rattle.rules.specs.Data.{value_of};
 ghost use Rattle.sets.specs.Views.{pages_of};
@@ -48,7 +48,7 @@ pub fn read_word(memory: &[u8], pages: u32, at: Address) -> u16
 // Two adjacent bytes, which the compiler writes in one move.
 pub fn put_word(memory: &mut [u8], i: usize, value: u16)
     requires { i + 2 ≤ length memory.old }
-    ensures { memory.new ≡ sets memory.old i (low_byte_lem value ∷ high_byte value ∷ []) }
+    ensures { memory.new ≡ sets memory.old i (low_byte value ∷ high_byte value ∷ []) }
 {
     memory[i] = bits::low_byte(value);
     memory[i + 1] = bits::high_byte(value);
@@ -57,7 +57,7 @@ pub fn put_word(memory: &mut [u8], i: usize, value: u16)
 // The status word stands at addresses 0 and 1.
 pub fn write_status(memory: &mut [u8], pages: u32, status: u16)
     requires { Room 2 pages memory.old }
-    ensures { memory.new ≡ put_bytes (low_byte_lem status ∷ high_byte status ∷ []) 0 (pages_of pages) memory.old }
+    ensures { memory.new ≡ put_bytes (low_byte status ∷ high_byte status ∷ []) 0 (pages_of pages) memory.old }
 {
     put_word(memory, place_in(pages, Address(0)), status);
 }

@@ -1,6 +1,6 @@
 // A whole frame as the chip stores it.
 ghost use Rattle.std.specs.Prelude.{◌≡◌, [], ◌∷◌, ◌+◌, ◌/◌, ◌%◌, ◌≤◌, length, take, drop};
-ghost use Rattle.rules.specs.Bits.{low_byte_lem, high_byte};
+ghost use Rattle.rules.specs.Bits.{low_byte, high_byte};
 ghost use Rattle.rules.specs.Packet.{put_bytes};
 ghost use Rattle.rules.specs.Receive.{count_of, trailer};
 ghost use Rattle.sets.specs.Views.{pages_of};
@@ -13,7 +13,7 @@ use sets::Address;
 // Status and byte count, both in the first page.
 pub fn write_head(memory: &mut [u8], pages: u32, status: u16, count: u16)
     requires { Room 4 pages memory.old }
-    ensures { memory.new ≡ put_bytes (low_byte_lem status ∷ high_byte status ∷ low_byte_lem count ∷ high_byte count ∷ []) 0 (pages_of pages) memory.old }
+    ensures { memory.new ≡ put_bytes (low_byte status ∷ high_byte status ∷ low_byte count ∷ high_byte count ∷ []) 0 (pages_of pages) memory.old }
 {
     let i = place_in(pages, Address(0));
     put_word(memory, i, status);

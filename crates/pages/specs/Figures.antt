@@ -1,7 +1,7 @@
 -- What is kept of the pages where they change, in both layouts: MIR, stored with the difference, counts the free pages again.
 use Rattle.std.specs.Prelude.{◌≡◌, List, [], ℕ, ◌+◌, ◌*◌, ◌<◌, length, get_or, set}
 use Rattle.std.proofs.Common.{ap, ap₂, sym, subst, ◌∙◌, arith}
-use Rattle.rules.specs.Bits.{word_of_lem}
+use Rattle.rules.specs.Bits.{word_of}
 use Rattle.rules.specs.Parts.{IsPart}
 use Rattle.rules.specs.Chip.{Layout, free_for}
 use Rattle.wellformed.specs.Layouts.{GoodLists, free_set}
@@ -19,8 +19,8 @@ module _ {l : Layout} (f : List (List ℕ) → List (List ℕ)) (k : ℕ) (x w w
   mir : word w' 4 ≡ y
   mir = ap (λ (c : List ℕ). word c 3) r.counted
 
-  free : y ≡ word_of_lem (length s) (length (free_for l (set (lists_of l s) k x)))
-  unfolding word_of_lem
+  free : y ≡ word_of (length s) (length (free_for l (set (lists_of l s) k x)))
+  unfolding word_of
   free = omega (arith, counted, h.free, free_set l (length s) (lists_of l s) k x number good after)
 
   same_size : length s' ≡ length s
@@ -34,7 +34,7 @@ module _ {l : Layout} (f : List (List ℕ) → List (List ℕ)) (k : ℕ) (x w w
     kept = r.kept;
     sets = record {
       part = subst IsPart (sym same_size) h.part;
-      free = mir ∙ free ∙ ap₂ (λ (n : ℕ) (ls : List (List ℕ)). word_of_lem n (length (free_for l ls))) (sym same_size) (sym (pages ∙ one));
+      free = mir ∙ free ∙ ap₂ (λ (n : ℕ) (ls : List (List ℕ)). word_of n (length (free_for l ls))) (sym same_size) (sym (pages ∙ one));
       small = small;
     };
   }

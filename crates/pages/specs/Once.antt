@@ -1,7 +1,7 @@
 -- Of each change of the page sets there is one result: two that meet its promise are equal.
 use Rattle.std.specs.Prelude.{◌≡◌, List, [], ℕ, length}
 use Rattle.std.proofs.Common.{ap, ap₂, sym, ◌∙◌}
-use Rattle.rules.specs.Bits.{word_of_lem}
+use Rattle.rules.specs.Bits.{word_of}
 use Rattle.rules.specs.Chip.{Layout, Chip, free_for}
 use Rattle.state.specs.View.{word, figures, with_mir, lists_of, view_of}
 use Rattle.state.specs.Pages.{numbers_length}
@@ -9,9 +9,9 @@ use Rattle.state.specs.Only.{words_once, numbers_known}
 use Rattle.pages.specs.Pages.{RepagesOf, AltersOf}
 
 -- MIR, where the pages are the same
-counted_once : (l : Layout) (s₁ s₂ : List ℕ) {x y : ℕ} → lists_of l s₁ ≡ lists_of l s₂ → x ≡ word_of_lem (length s₁) (length (free_for l (lists_of l s₁))) → y ≡ word_of_lem (length s₂) (length (free_for l (lists_of l s₂))) → x ≡ y
+counted_once : (l : Layout) (s₁ s₂ : List ℕ) {x y : ℕ} → lists_of l s₁ ≡ lists_of l s₂ → x ≡ word_of (length s₁) (length (free_for l (lists_of l s₁))) → y ≡ word_of (length s₂) (length (free_for l (lists_of l s₂))) → x ≡ y
 counted_once l s₁ s₂ e f g =
-    f ∙ ap₂ (λ (n : ℕ) (ls : List (List ℕ)). word_of_lem n (length (free_for l ls))) (sym (numbers_length l s₁) ∙ ap length e ∙ numbers_length l s₂) e ∙ sym g
+    f ∙ ap₂ (λ (n : ℕ) (ls : List (List ℕ)). word_of n (length (free_for l ls))) (sym (numbers_length l s₁) ∙ ap length e ∙ numbers_length l s₂) e ∙ sym g
 
 -- the words and the page sets
 module _ {l : Layout} {f : List (List ℕ) → List (List ℕ)} {w s w₁ s₁ w₂ s₂ : List ℕ} (a : RepagesOf l f w s w₁ s₁) (b : RepagesOf l f w s w₂ s₂) where

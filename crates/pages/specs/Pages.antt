@@ -1,7 +1,7 @@
 -- What a change of the page sets promises: the free count that is kept follows it.
 use Rattle.std.specs.Prelude.{◌≡◌, List, [], ℕ, ◌/◌, ◌≤◌, ◌<◌, length, get_or}
 use Rattle.std.proofs.Common.{ap, subst, sym, ◌∙◌, arith}
-use Rattle.rules.specs.Bits.{word_of_lem}
+use Rattle.rules.specs.Bits.{word_of}
 use Rattle.rules.specs.Chip.{Registers, Layout, paged, Pool, Chip, free_for}
 use Rattle.rules.specs.Fields.{set_pages, in_registers, in_pool}
 use Rattle.rules.specs.WellFormed.{GoodPages}
@@ -103,5 +103,5 @@ waits_few {w = w} r = request_few (registers_in w).numbers r.well.request
 
 -- MIR's high byte is the number of free pages.
 pub free_told : {l : Layout} (w s : List ℕ) → PagesIn l (figures w) s → word w 4 / 256 ≡ length (free_for l (lists_of l s))
-unfolding word_of_lem
+unfolding word_of
 free_told w s h = omega (arith, h.free, part_few h.part)

@@ -2,7 +2,7 @@
 use Rattle.std.specs.Prelude.{◌≡◌, refl, List, [], ℕ, length, replicate}
 use Rattle.std.proofs.Common.{ap, ap₂, sym, subst, ◌∙◌, arith}
 use Rattle.std.proofs.lemmas.List.{length-replicate}
-use Rattle.rules.specs.Bits.{word_of_lem}
+use Rattle.rules.specs.Bits.{word_of}
 use Rattle.rules.specs.Lists.{total}
 use Rattle.rules.specs.Parts.{IsPart}
 use Rattle.rules.specs.Chip.{Layout, free_for}
@@ -27,8 +27,8 @@ no_entries n = record {
 }
 
 -- n free pages of n
-all_free : (l : Layout) (n : ℕ) → word_of_lem n n ≡ word_of_lem n (length (free_for l (replicate n [])))
-all_free l n = let e : n ≡ length (free_for l (replicate n [])) = omega (arith, free_total l n (replicate n []) (none_lists l n), none_total n) in ap (word_of_lem n) e
+all_free : (l : Layout) (n : ℕ) → word_of n n ≡ word_of n (length (free_for l (replicate n [])))
+all_free l n = let e : n ≡ length (free_for l (replicate n [])) = omega (arith, free_total l n (replicate n []) (none_lists l n), none_total n) in ap (word_of n) e
 
 -- No packet has pages and no queue has entries.
 pub emptied : {l : Layout} (n : ℕ) {w w' s' q' : List ℕ} → IsPart n → Recounts (no_figures n) w w' → Small s' → lists_of l s' ≡ replicate n [] → q' ≡ replicate 72 0 → EmptiedOf l n w w' s' q'
@@ -39,6 +39,6 @@ emptied {l} n {s' = s'} {q' = q'} part r small pages none = let size : length s'
     kept = r.kept;
     queues = subst (λ (c : List ℕ). QueuesIn c q') (sym r.counted) (subst (QueuesIn (no_figures n)) (sym none) (no_entries n));
     sets = subst (λ (c : List ℕ). PagesIn l c s') (sym r.counted)
-        (record { part = subst IsPart (sym size) part; free = all_free l n ∙ ap₂ (λ (m : ℕ) (ls : List (List ℕ)). word_of_lem m (length (free_for l ls))) (sym size) (sym pages); small = small });
+        (record { part = subst IsPart (sym size) part; free = all_free l n ∙ ap₂ (λ (m : ℕ) (ls : List (List ℕ)). word_of m (length (free_for l ls))) (sym size) (sym pages); small = small });
   };
 }

@@ -17,13 +17,13 @@ use Rattle.records.specs.Event.{meant}
 use Rattle.records.specs.Gathers.{Gathers, reply_to, held, holding}
 
 -- An event is known from what it means.
-width_back_lem : registers.Width → Width
-width_back_lem byte = width.Byte
-width_back_lem word = width.Word
+width_back : registers.Width → Width
+width_back byte = width.Byte
+width_back word = width.Word
 
 event_back : rules.Event → Event
-event_back (access (read w o)) = Read (width_back_lem w) o
-event_back (access (write w o v)) = Write (width_back_lem w) o v
+event_back (access (read w o)) = Read (width_back w) o
+event_back (access (write w o v)) = Write (width_back w) o v
 event_back (wire c l) = Wire c
 event_back (frame_ends align) = Ends align
 event_back (send s) = Send s.outcome s.collisions s.deferral
@@ -32,7 +32,7 @@ event_back (part x) = Part x
 event_back unknown = Unknown
 
 event_back_lem : (e : Event) (bytes : List ℕ) → event_back (meant e bytes) ≡ e
-unfolding width_back_lem event_back
+unfolding width_back event_back
 event_back_lem (Read width.Byte o) bytes = refl
 event_back_lem (Read width.Word o) bytes = refl
 event_back_lem (Write width.Byte o v) bytes = refl

@@ -1,6 +1,6 @@
 // Reads that are not a word as it stands.
 ghost use Rattle.std.specs.Prelude.{◌≡◌, length};
-ghost use Rattle.rules.specs.Bits.{bit, word_of_lem};
+ghost use Rattle.rules.specs.Bits.{bit, word_of};
 ghost use Rattle.rules.specs.Link.{shown};
 ghost use Rattle.rules.specs.Registers as rules;
 ghost use Rattle.state.specs.View.{word, figures, queue_in, Kept};
@@ -35,7 +35,7 @@ fn rx_shown(words: &[u16], queues: &[u8]) -> u8
 // The heads of completion and of RX.
 pub fn heads(words: &[u16], queues: &[u8]) -> u16
     requires { Kept words.now × QueuesIn (figures words.now) queues.now }
-    ensures { result ≡ word_of_lem (rules.head_of (queue_in 2 (word words.now 9) queues.now)) (rules.head_of (queue_in 0 (word words.now 6) queues.now)) }
+    ensures { result ≡ word_of (rules.head_of (queue_in 2 (word words.now 9) queues.now)) (rules.head_of (queue_in 0 (word words.now 6) queues.now)) }
 {
     bits::word(completion_shown(words, queues), rx_shown(words, queues))
 }

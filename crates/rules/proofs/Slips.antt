@@ -8,7 +8,7 @@ use native.Mathlib.Omega.{arith}
 use borrow.Author.Tests.{le-leb, lt-ltb, le-ltb, ne_eqb}
 use lib.ListN.{length, get_or, take, replicate, length-replicate}
 use lib.Seq.{get_or-set_same, get_or-set_other}
-use Rattle.rules.specs.Bits.{bit, low_byte_lem, high_byte, word_of_lem, word_at}
+use Rattle.rules.specs.Bits.{bit, low_byte, high_byte, word_of, word_at}
 use Rattle.rules.specs.Lists.{member, first_empty, some?, owned, unless, free_below}
 use Rattle.rules.specs.Parts.{lan91c94, lan91c96, part_named}
 use Rattle.rules.specs.Chip.{Registers, Layout, paged, strips, Chip, size, pages_at, free, powered}
@@ -137,8 +137,8 @@ pub sends_leave_link : (is_good : Bool) (s : Send) (address : List ℕ) (emptied
 sends_leave_link is_good s address emptied r = refl
 
 -- A word is made again of its low byte and its high byte.
-pub word_again : (x : ℕ) → x < 65536 → word_of_lem (low_byte_lem x) (high_byte x) ≡ x
-unfolding word_of_lem low_byte_lem high_byte
+pub word_again : (x : ℕ) → x < 65536 → word_of (low_byte x) (high_byte x) ≡ x
+unfolding word_of low_byte high_byte
 word_again x h = omega arith
 
 -- The byte count stands at addresses 2 and 3 of a stored frame.
@@ -184,7 +184,7 @@ failed_single s ecr a b = rw (a, b)
 -- The first value is not 0, and each answer is that of the chip after the inputs before it: the bank is read, then bank 2 is selected and its queue heads are read.
 pub answers_go_on : (run_of lan91c96 (driver (read word 14) ∷ driver (write byte 14 2) ∷ driver (read word 4) ∷ []) (powered paged lan91c96)).replies
     ≡ record { number = 0; value = 0x3300 } ∷ record { number = 0; value = 0 } ∷ record { number = 0; value = 0x8080 } ∷ []
-unfolding run_of step_of fit formed pages_good laid_good ascends all_below none_owned numbers_good queues_good queue_good request_good apart serve access misplaced bit register_at lanes_at read_register write_register taken low_only word_of_lem head_of
+unfolding run_of step_of fit formed pages_good laid_good ascends all_below none_owned numbers_good queues_good queue_good request_good apart serve access misplaced bit register_at lanes_at read_register write_register taken low_only word_of head_of
 answers_go_on = refl
 
 -- Refusal 8 comes before 9 and 10.
@@ -212,7 +212,7 @@ module _ (s : Send) (k : ℕ) (rest : List ℕ) (c : Chip) (out : List ℕ) wher
 -- Document 02, W9. "MIR 1212h after reset", and by the same rule document 01's 1818h.
 pub mir_by_the_part : ((run_of lan91c94 (driver (read word 8) ∷ []) (powered paged lan91c94)).replies ≡ record { number = 0; value = 0x1212 } ∷ [])
     × ((run_of lan91c96 (driver (read word 8) ∷ []) (powered paged lan91c96)).replies ≡ record { number = 0; value = 0x1818 } ∷ [])
-unfolding run_of step_of fit formed pages_good laid_good ascends all_below none_owned numbers_good queues_good queue_good request_good apart serve access misplaced bit register_at lanes_at read_register write_register taken low_only word_of_lem head_of free_below unless owned member
+unfolding run_of step_of fit formed pages_good laid_good ascends all_below none_owned numbers_good queues_good queue_good request_good apart serve access misplaced bit register_at lanes_at read_register write_register taken low_only word_of head_of free_below unless owned member
 mir_by_the_part = (refl, refl)
 
 -- A part of n packets has n of them and no more: so none from n on is allocated.

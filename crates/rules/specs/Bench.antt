@@ -1,6 +1,6 @@
 -- Document 01, "Bench program and its records"; document 02, W9: a first record may ask for the part.
 use Rattle.std.specs.Prelude.{Bool, cond, not, ◌&&◌, List, [], ◌∷◌, ◌++◌, ℕ, zero, suc, ◌+◌, ◌/◌, ◌%◌, eqb, leb, ltb, length, get_or, take, drop, replicate}
-use Rattle.rules.specs.Bits.{bit, word_of_lem}
+use Rattle.rules.specs.Bits.{bit, word_of}
 use Rattle.rules.specs.Parts.{lan91c96, part_named}
 use Rattle.rules.specs.Chip.{paged, strips, Chip, powered}
 use Rattle.rules.specs.Answers.{Reply, Turn, done, refusal}
@@ -27,7 +27,7 @@ abbrev pub at : List ℕ → ℕ → ℕ
 at bytes k = get_or bytes k 0
 
 abbrev pub value_in : List ℕ → ℕ
-value_in bytes = word_of_lem (at bytes 2) (at bytes 3)
+value_in bytes = word_of (at bytes 2) (at bytes 3)
 
 -- "Byte 0: 1 read byte, 2 read word, 3 write byte, 4 write word (offset, value low, high); 5 wire bytes", "6 frame ends (byte 1: .. 1 alignment)", "bit 0 .. ignored" (W4), "7 send (outcome, collisions, deferral)"; "Record kind 8: byte 1 is 0 or 1" (W8); "kind 9, byte 1 being 94h or 96h" (W9); "Unused bytes are ignored."
 unfoldable pub event_of : List ℕ → Event

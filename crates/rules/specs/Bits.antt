@@ -23,15 +23,15 @@ share zero x y = false
 share (suc k) x y = share k x y || (bit k x && bit k y)
 
 -- the two bytes of a word, and the word of two bytes
-unfoldable pub low_byte_lem : ℕ → ℕ
-low_byte_lem x = x % 256
+unfoldable pub low_byte : ℕ → ℕ
+low_byte x = x % 256
 
 unfoldable pub high_byte : ℕ → ℕ
 high_byte x = x / 256 % 256
 
-unfoldable pub word_of_lem : ℕ → ℕ → ℕ
-word_of_lem low high = low + high * 256
+unfoldable pub word_of : ℕ → ℕ → ℕ
+word_of low high = low + high * 256
 
 -- the word in bytes i and i + 1 of a list, lower first
 unfoldable pub word_at : ℕ → List ℕ → ℕ
-word_at i l = word_of_lem (get_or l i 0) (get_or l (i + 1) 0)
+word_at i l = word_of (get_or l i 0) (get_or l (i + 1) 0)

@@ -1,6 +1,6 @@
 -- Document 01, "Registers": the pointer and the data accesses.
 use Rattle.std.specs.Prelude.{Bool, true, false, cond, not, ◌&&◌, List, [], ◌∷◌, ℕ, ◌+◌, ◌*◌, ◌/◌, ◌%◌, ltb, length}
-use Rattle.rules.specs.Bits.{bit, word_of_lem}
+use Rattle.rules.specs.Bits.{bit, word_of}
 use Rattle.rules.specs.Chip.{Chip, pages_at, allocated}
 use Rattle.rules.specs.Fields.{set_pointer, in_registers, in_memory}
 use Rattle.rules.specs.Answers.{Effect, done_with, did, refuse}
@@ -56,7 +56,7 @@ moved width c = in_registers (set_pointer (next width c.regs.pointer)) c
 -- "A word takes two bytes, lower first."
 unfoldable pub value_of : List ℕ → ℕ
 value_of [] = 0
-value_of (b ∷ bs) = word_of_lem b (value_of bs)
+value_of (b ∷ bs) = word_of b (value_of bs)
 
 unfoldable pub read_data : ℕ → Chip → Effect
 read_data width c =

@@ -14,8 +14,8 @@ abbrev pub IsPart : ℕ → Type 0
 IsPart n = (n ≡ lan91c94) ⊎ (n ≡ lan91c96)
 
 -- "16 goes by the part's size": the part of a chip with n packets. One with neither number is none, and is asked to be document 01's, which it is not.
-unfoldable pub part_of_lem : ℕ → ℕ
-part_of_lem n = cond (eqb n lan91c94) lan91c94 lan91c96
+unfoldable pub part_of : ℕ → ℕ
+part_of n = cond (eqb n lan91c94) lan91c94 lan91c96
 
 -- "byte 1 being 94h or 96h": how many packets the part has that it names, 0 where it names none
 unfoldable pub part_named : ℕ → ℕ

@@ -1,6 +1,6 @@
 -- Document 01, "A frame arrives"; document 02, W4: the frame's own FCS tells whether its CRC is bad.
 use Rattle.std.specs.Prelude.{Bool, true, false, cond, not, ◌&&◌, ◌||◌, List, [], ◌∷◌, ◌++◌, ℕ, ◌+◌, ◌-◌, ◌*◌, ◌/◌, ◌%◌, ◌^◌, eqb, ltb, length, get_or, take, drop}
-use Rattle.rules.specs.Bits.{bit, set_bit, flag, low_byte_lem, high_byte}
+use Rattle.rules.specs.Bits.{bit, set_bit, flag, low_byte, high_byte}
 use Rattle.rules.specs.Chip.{Registers, Chip, free}
 use Rattle.rules.specs.Fields.{set_rcr, set_overrun, set_rx, in_registers, in_pool, in_memory}
 use Rattle.rules.specs.Answers.{Effect, done_with, refuse}
@@ -105,7 +105,7 @@ trailer n = cond (bit 0 n) (0x60 ∷ []) (0 ∷ 0x40 ∷ [])
 -- "Stored from packet address 0: status, byte count, n bytes, then .."
 unfoldable pub image : Frame → ℕ → List ℕ
 image f n =
-    low_byte_lem (frame_status f n) ∷ high_byte (frame_status f n) ∷ low_byte_lem (count_of n) ∷ high_byte (count_of n) ∷ (take n f.bytes ++ trailer n)
+    low_byte (frame_status f n) ∷ high_byte (frame_status f n) ∷ low_byte (count_of n) ∷ high_byte (count_of n) ∷ (take n f.bytes ++ trailer n)
 
 -- "A stored frame takes the lowest unallocated number and the lowest free pages; the allocation result stays. The number goes to the end of RX."
 -- "Page k (k at least 1) holds the frame from byte 256k − 4 on": four bytes stand before it. "Later bytes of the last page stay."

@@ -1,6 +1,6 @@
 -- Document 01, "Registers". "Low byte at the even offset": a register is a word of two bytes, and an access reaches the low byte, the high byte or both.
 use Rattle.std.specs.Prelude.{Bool, cond, ◌||◌, List, [], ◌∷◌, ℕ, ◌+◌, ◌*◌, ◌/◌, ◌%◌, eqb, ltb, length, get_or, set, replicate}
-use Rattle.rules.specs.Bits.{bit, clear_bit, low_byte_lem, high_byte, word_of_lem, word_at}
+use Rattle.rules.specs.Bits.{bit, clear_bit, low_byte, high_byte, word_of, word_at}
 use Rattle.rules.specs.Chip.{Registers, Chip, size, free, reset_registers, empty_pool}
 use Rattle.rules.specs.Fields.{set_tcr, set_ephsr, set_rcr, set_ecr, set_reserved, set_station, set_control, set_packet, set_pointer, set_mask, set_table, set_bank, in_registers}
 use Rattle.rules.specs.Answers.{Effect, done_with, did, refuse}
@@ -77,21 +77,21 @@ lanes_at word offset = both
 
 -- what a read gives of a register's word
 unfoldable pub taken : Lanes → ℕ → ℕ
-taken low x = low_byte_lem x
+taken low x = low_byte x
 taken high x = high_byte x
 taken both x = x
 
 -- "A byte write changes that byte only": a register's word x after a write of v
 unfoldable pub merged : Lanes → ℕ → ℕ → ℕ
-merged low v x = word_of_lem (low_byte_lem v) (high_byte x)
-merged high v x = word_of_lem (low_byte_lem x) (low_byte_lem v)
-merged both v x = word_of_lem (low_byte_lem v) (high_byte v)
+merged low v x = word_of (low_byte v) (high_byte x)
+merged high v x = word_of (low_byte x) (low_byte v)
+merged both v x = word_of (low_byte v) (high_byte v)
 
 -- the same for bytes i and i + 1 of a list
 unfoldable pub merged_at : Lanes → ℕ → ℕ → List ℕ → List ℕ
-merged_at low v i l = set l i (low_byte_lem v)
-merged_at high v i l = set l (i + 1) (low_byte_lem v)
-merged_at both v i l = set (set l i (low_byte_lem v)) (i + 1) (high_byte v)
+merged_at low v i l = set l i (low_byte v)
+merged_at high v i l = set l (i + 1) (low_byte v)
+merged_at both v i l = set (set l i (low_byte v)) (i + 1) (high_byte v)
 
 -- how many bytes of data an access moves, and which a write writes
 unfoldable pub width : Lanes → ℕ
@@ -100,9 +100,9 @@ width high = 1
 width both = 2
 
 unfoldable pub bytes_of : Lanes → ℕ → List ℕ
-bytes_of low v = low_byte_lem v ∷ []
-bytes_of high v = low_byte_lem v ∷ []
-bytes_of both v = low_byte_lem v ∷ high_byte v ∷ []
+bytes_of low v = low_byte v ∷ []
+bytes_of high v = low_byte v ∷ []
+bytes_of both v = low_byte v ∷ high_byte v ∷ []
 
 -- "80h when empty"
 unfoldable pub head_of : List ℕ → ℕ
@@ -135,9 +135,9 @@ clear_ecr r = set_ecr 0 (set_ephsr (clear_bit 12 r.sending.ephsr) r)
 
 -- "C interrupt status, acknowledge on write; D mask"
 unfoldable pub write_interrupt : Lanes → ℕ → Chip → Chip
-write_interrupt low v c = acknowledge (low_byte_lem v) c
-write_interrupt high v c = in_registers (set_mask (low_byte_lem v)) c
-write_interrupt both v c = in_registers (set_mask (high_byte v)) (acknowledge (low_byte_lem v) c)
+write_interrupt low v c = acknowledge (low_byte v) c
+write_interrupt high v c = in_registers (set_mask (low_byte v)) c
+write_interrupt both v c = in_registers (set_mask (high_byte v)) (acknowledge (low_byte v) c)
 
 -- refusal 3: "write in which every byte is read-only", where the high byte is; "a word write skips its read-only half"
 unfoldable pub low_only : Lanes → Chip → Effect → Effect
@@ -152,18 +152,18 @@ read_register EPHSR p c = done_with (taken p (shown_ephsr c.regs)) c
 read_register RCR p c = done_with (taken p c.regs.receiving.rcr) c
 read_register ECR p c = done_with (taken p c.regs.sending.ecr) (in_registers clear_ecr c)
 -- "low byte 18h, high byte free pages": 18h is 24, the number of pages; on the other part 12h, "MIR 1212h after reset" (W9)
-read_register MIR p c = done_with (taken p (word_of_lem (size c) (length (free c)))) c
-read_register RESERVED p c = done_with (taken p (word_of_lem c.regs.receiving.reserved 0x33)) c
+read_register MIR p c = done_with (taken p (word_of (size c) (length (free c)))) c
+read_register RESERVED p c = done_with (taken p (word_of c.regs.receiving.reserved 0x33)) c
 read_register (STATION k) p c = done_with (taken p (word_at (2 * k) c.regs.receiving.station)) c
 read_register CONTROL p c = done_with (taken p c.regs.control) c
 read_register COMMAND p c = done_with 0 c
-read_register PACKET p c = done_with (taken p (word_of_lem c.regs.numbers.packet c.regs.numbers.result)) c
-read_register HEADS p c = done_with (taken p (word_of_lem (head_of c.pool.completion) (head_of c.pool.rx))) c
+read_register PACKET p c = done_with (taken p (word_of c.regs.numbers.packet c.regs.numbers.result)) c
+read_register HEADS p c = done_with (taken p (word_of (head_of c.pool.completion) (head_of c.pool.rx))) c
 read_register POINTER p c = done_with (taken p c.regs.pointer) c
 read_register DATA p c = read_data (width p) c
-read_register INTERRUPT p c = done_with (taken p (word_of_lem (status c) c.regs.mask)) c
+read_register INTERRUPT p c = done_with (taken p (word_of (status c) c.regs.mask)) c
 read_register (TABLE k) p c = done_with (taken p (word_at (2 * k) c.regs.receiving.table)) c
-read_register BANK p c = done_with (taken p (word_of_lem c.regs.numbers.bank 0x33)) c
+read_register BANK p c = done_with (taken p (word_of c.regs.numbers.bank 0x33)) c
 -- "byte reads give 33h, word reads 3333h"
 read_register UNUSED p c = done_with (taken p 0x3333) c
 read_register ABSENT p c = refuse 2 c
@@ -175,11 +175,11 @@ write_register EPHSR p v c = refuse 3 c
 write_register RCR p v c = did (write_rcr (new_rcr p v c.regs.receiving.rcr) c)
 write_register ECR p v c = refuse 3 c
 write_register MIR p v c = refuse 3 c
-write_register RESERVED p v c = low_only p c (did (in_registers (set_reserved (low_byte_lem v)) c))
+write_register RESERVED p v c = low_only p c (did (in_registers (set_reserved (low_byte v)) c))
 write_register (STATION k) p v c = did (in_registers (λ r. set_station (merged_at p v (2 * k) r.receiving.station) r) c)
 -- "a write to either control byte" forgets a change of the link (W8), also one that sets bit 7
 write_register CONTROL p v c = did (in_registers (λ r. set_control (merged p v r.control) (forget_change r)) c)
-write_register COMMAND p v c = low_only p c (command (low_byte_lem v) c)
+write_register COMMAND p v c = low_only p c (command (low_byte v) c)
 -- "packet number (value mod 64)"
 write_register PACKET p v c = low_only p c (did (in_registers (set_packet (v % 64)) c))
 write_register HEADS p v c = refuse 3 c

@@ -1,6 +1,6 @@
 -- Document 01, "A send finishes"; document 02, W2: which fault in the byte count, and W4: the frame check sequence.
 use Rattle.std.specs.Prelude.{Bool, true, false, cond, not, ◌&&◌, ◌||◌, List, [], ◌∷◌, ◌++◌, ℕ, ◌+◌, ◌-◌, ◌*◌, ◌/◌, ◌%◌, ◌^◌, min, eqb, leb, ltb, length, get_or, replicate}
-use Rattle.rules.specs.Bits.{bit, clear_bit, flag, low_byte_lem, high_byte, word_at}
+use Rattle.rules.specs.Bits.{bit, clear_bit, flag, low_byte, high_byte, word_at}
 use Rattle.rules.specs.Lists.{some?}
 use Rattle.rules.specs.Chip.{Registers, Chip, size, pages_at}
 use Rattle.rules.specs.Fields.{set_tx, set_completion, in_sending, in_registers, in_pool, in_memory}
@@ -134,7 +134,7 @@ status_word is_good s address r = shown r.link.up (new_ephsr is_good s address r
 
 -- "EPHSR is written to addresses 0 and 1."
 abbrev pub status_written : List ℕ → ℕ → Chip → Chip
-status_written pages e c = in_memory (put_bytes (low_byte_lem e ∷ high_byte e ∷ []) 0 pages) c
+status_written pages e c = in_memory (put_bytes (low_byte e ∷ high_byte e ∷ []) 0 pages) c
 
 -- the head k of TX, with rest behind it, is sent
 unfoldable pub send_head : Send → ℕ → List ℕ → Chip → List ℕ → Turn

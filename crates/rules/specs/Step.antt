@@ -1,6 +1,6 @@
 -- One type of inputs, one step, and inputs one after another.
 use Rattle.std.specs.Prelude.{cond, not, List, [], ◌∷◌, ℕ}
-use Rattle.rules.specs.Parts.{part_of_lem}
+use Rattle.rules.specs.Parts.{part_of}
 use Rattle.rules.specs.Chip.{Chip, size}
 use Rattle.rules.specs.Answers.{Reply, Turn, refused, leaving}
 use Rattle.rules.specs.Tests.{fit}
@@ -37,7 +37,7 @@ step_of n i c = cond (not (fit n c)) (refused 16 c (lent i)) (serve i c)
 
 -- of either part, the one whose number of packets the chip has: "16 goes by the part's size" (W9)
 abbrev pub step : Input → Chip → Turn
-step i c = step_of (part_of_lem (size c)) i c
+step i c = step_of (part_of (size c)) i c
 
 -- inputs one after another: their replies, the output buffer of each after it, and the last chip
 pub record Ran : Type 0 where

@@ -3,7 +3,7 @@ use Rattle.std.specs.Prelude.{◌≡◌, refl, Bool, true, not, ◌||◌, ℕ, �
 use Rattle.std.proofs.Math.Path.{ap, ap₂}
 use Rattle.std.proofs.Common.{sym, subst, ◌∙◌, true≢false, arith}
 use mathlib.Core.List.{List, [], ◌∷◌}
-use Rattle.rules.specs.Bits.{bit, flag, low_byte_lem, high_byte}
+use Rattle.rules.specs.Bits.{bit, flag, low_byte, high_byte}
 use Rattle.rules.specs.Lists.{some?}
 use Rattle.rules.specs.Chip.{Layout, paged, Chip}
 use Rattle.rules.specs.Fields.{set_tx, in_registers, in_pool}
@@ -32,7 +32,7 @@ module _ {is_good : Bool} {s : Send} {bits : ℕ} {w q w' q' : List ℕ} (t : Se
   status_in = shown (bit 0 (word w' 15)) (word w' 1)
 
   -- the chip, once it is in memory
-  pub sent_view : (l : Layout) (sets pages mem address : List ℕ) {mem' : List ℕ} {x : ℕ} → bits ≡ address_bits address → x ≡ status_in → mem' ≡ put_bytes (low_byte_lem x ∷ high_byte x ∷ []) 0 pages mem
+  pub sent_view : (l : Layout) (sets pages mem address : List ℕ) {mem' : List ℕ} {x : ℕ} → bits ≡ address_bits address → x ≡ status_in → mem' ≡ put_bytes (low_byte x ∷ high_byte x ∷ []) 0 pages mem
       → let rest = drop 1 (queue_in 1 (word w 8) q) in
       view_of l w' sets q' mem'
       ≡ status_written pages (status_word is_good s address (registers_in w)) (in_pool (set_tx rest) (in_registers (sent_registers is_good s address (not (some? rest))) (view_of l w sets q mem)))
@@ -41,11 +41,11 @@ module _ {is_good : Bool} {s : Send} {bits : ℕ} {w q w' q' : List ℕ} (t : Se
       let status = told ∙ ap (λ (c : Chip). shown_ephsr c.regs) (t.chip l sets mem)
       ∙ ap (λ (b : ℕ). shown (bit 0 (word w 15)) (outcome_bits is_good s + b + 2 ^ 12 * flag (bit 12 (word w 1) || any_at15 (tally is_good s (word w 3))))) e in
       t.chip l sets mem'
-      ∙ ap₂ (λ (b : ℕ) (m : List ℕ). head_gone is_good s b (view_of l w sets q m)) e (m ∙ ap (λ (x : ℕ). put_bytes (low_byte_lem x ∷ high_byte x ∷ []) 0 pages mem) status)
+      ∙ ap₂ (λ (b : ℕ) (m : List ℕ). head_gone is_good s b (view_of l w sets q m)) e (m ∙ ap (λ (x : ℕ). put_bytes (low_byte x ∷ high_byte x ∷ []) 0 pages mem) status)
 
   -- and then the packet is retired
   pub completes : {l : Layout} {sets pages mem w'' s'' q'' mem'' : List ℕ} {released : Bool} {k x : ℕ} → k ≡ get_or (queue_in 1 (word w 8) q) 0 0 → bits ≡ address_bits (get_bytes 6 4 pages mem)
-      → x ≡ status_in → mem'' ≡ put_bytes (low_byte_lem x ∷ high_byte x ∷ []) 0 pages mem → RetiresOf l released k w' sets q' w'' s'' q''
+      → x ≡ status_in → mem'' ≡ put_bytes (low_byte x ∷ high_byte x ∷ []) 0 pages mem → RetiresOf l released k w' sets q' w'' s'' q''
       → CompletesOf l released is_good s pages (view_of l w sets q mem) w'' s'' q'' mem''
   completes {l} {sets} {pages} {mem} {mem'' = mem''} {released = released} h e told m r = record {
     chip = r.chip mem'' ∙ ap₂ (λ (i : ℕ) (d : Chip). retire released i d) h (sent_view l sets pages mem (get_bytes 6 4 pages mem) e told m);

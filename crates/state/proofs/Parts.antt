@@ -6,7 +6,7 @@ use native.Mathlib.Omega.{arith}
 use borrow.Author.Tests.{eq-eqb, ne_eqb, lt-ltb}
 use lib.Dec.{eqb, ltb}
 use Rattle.bits.specs.Laws.{bit_zero}
-use Rattle.rules.specs.Bits.{bit, low_byte_lem, high_byte, word_of_lem}
+use Rattle.rules.specs.Bits.{bit, low_byte, high_byte, word_of}
 use Rattle.rules.specs.Registers as rules
 use Rattle.rules.specs.Registers.{lanes_at, misplaced, merged}
 use Rattle.state.specs.declared.Width.{Width}
@@ -43,13 +43,13 @@ high_odd width.Byte offset h = sym (as_bit (bit 0 offset) ∙ bit_zero offset)
 high_odd width.Word offset h = sym (bit_zero offset) ∙ right_false (ltb 15 offset) (bit 0 offset) h
 
 pub joined_high : (v x : ℕ) → Joined rules.high v x (x % 256 + v % 256 * 256)
-unfolding merged low_byte_lem word_of_lem
+unfolding merged low_byte word_of
 joined_high v x = record { word = refl; low = omega arith; high = omega arith }
 
 pub joined_low : (v x : ℕ) → x < 65536 → Joined rules.low v x (x / 256 * 256 + v % 256)
-unfolding merged low_byte_lem high_byte word_of_lem
+unfolding merged low_byte high_byte word_of
 joined_low v x h = record { word = omega arith; low = omega arith; high = omega arith }
 
 pub joined_both : (v x : ℕ) → v < 65536 → Joined rules.both v x v
-unfolding merged low_byte_lem high_byte word_of_lem
+unfolding merged low_byte high_byte word_of
 joined_both v x h = record { word = omega arith; low = refl; high = omega arith }

@@ -7,7 +7,7 @@ use mathlib.Core.List.{List, [], ◌∷◌, ◌++◌}
 use Prim.Native.Nat.{ℕ, ◌^◌, ◌<◌}
 use native.Mathlib.Omega.{arith}
 use lib.ListN.{length, get_or, set, replicate}
-use Rattle.rules.specs.Bits.{bit, flag, word_of_lem}
+use Rattle.rules.specs.Bits.{bit, flag, word_of}
 use Rattle.rules.specs.Lists.{member, some?, owned, unless, free_below}
 use Rattle.rules.specs.Parts.{IsPart}
 use Rattle.rules.specs.Chip.{paged}
@@ -37,7 +37,7 @@ queues = (0 ∷ replicate 23 0) ++ ((17 ∷ replicate 23 0) ++ replicate 24 0)
 
 -- its figures are those of a full count
 pub right : FullCount (figures words) (pool_in (figures words) sets queues)
-unfolding pages_of bits_below bit free_below owned member unless word_of_lem set_of
+unfolding pages_of bits_below bit free_below owned member unless word_of set_of
 right = record {
   rx = refl;
   tx = refl;
@@ -54,7 +54,7 @@ small i = each_at (λ x. x < 2 ^ 32) sets i 0 ((below_decides (2 ^ 32) sets).sou
 
 -- and it is in order
 pub ready : Ready words sets queues
-unfolding formed pages_good laid_good ascends above all_below none_owned queues_good queue_good apart numbers_good request_good some? flag pages_of bits_below bit free_below owned member unless word_of_lem set_of
+unfolding formed pages_good laid_good ascends above all_below none_owned queues_good queue_good apart numbers_good request_good some? flag pages_of bits_below bit free_below owned member unless word_of set_of
 ready = record {
   sound = record {
     kept = record {
@@ -93,11 +93,11 @@ refused at x n = gets_16 (set words at x) sets queues n
 
 -- one page less is free, and one more; or MIR does not say that there are 24
 pub one_free_less : Gets16 4 0x1418
-unfolding pages_of bits_below bit free_below owned member unless word_of_lem
+unfolding pages_of bits_below bit free_below owned member unless word_of
 one_free_less = refused 4 0x1418 (λ o. let e : 0x1418 ≡ 0x1518 = o.sound.sets.free in omega (arith, e))
 
 pub one_free_more : Gets16 4 0x1618
-unfolding pages_of bits_below bit free_below owned member unless word_of_lem
+unfolding pages_of bits_below bit free_below owned member unless word_of
 one_free_more = refused 4 0x1618 (λ o. let e : 0x1618 ≡ 0x1518 = o.sound.sets.free in omega (arith, e))
 
 -- 23 packets has no part
@@ -137,11 +137,11 @@ not_formed w s q e o = true≢false (sym ((formed_decides (length s) (view w s q
 
 -- an allocation waits for 8 pages although 21 are free; for 22, more than are free but also more than any command asks for
 pub waits_in_vain : Gets16 23 8
-unfolding formed pages_good laid_good ascends above all_below none_owned queues_good queue_good apart numbers_good request_good some? flag pages_of bits_below bit free_below owned member unless word_of_lem set_of
+unfolding formed pages_good laid_good ascends above all_below none_owned queues_good queue_good apart numbers_good request_good some? flag pages_of bits_below bit free_below owned member unless word_of set_of
 waits_in_vain = refused 23 8 (not_formed (set words 23 8) sets queues refl)
 
 pub waits_for_22 : Gets16 23 22
-unfolding formed pages_good laid_good ascends above all_below none_owned queues_good queue_good apart numbers_good request_good some? flag pages_of bits_below bit free_below owned member unless word_of_lem set_of
+unfolding formed pages_good laid_good ascends above all_below none_owned queues_good queue_good apart numbers_good request_good some? flag pages_of bits_below bit free_below owned member unless word_of set_of
 waits_for_22 = refused 23 22 (not_formed (set words 23 22) sets queues refl)
 
 -- Packets 0, 1 and 2 have all pages, and an allocation waits for one: with the result at 80h that may be, and with another it may not.
@@ -154,11 +154,11 @@ abbrev full_sets : List ℕ
 full_sets = 0xff ∷ 0xff00 ∷ 0xff0000 ∷ replicate 21 0
 
 pub may_wait : formed 24 (view (full_words 0x8000) full_sets (replicate 72 0) []) ≡ true
-unfolding formed pages_good laid_good ascends above all_below none_owned queues_good queue_good apart numbers_good request_good some? flag pages_of bits_below bit free_below owned member unless word_of_lem set_of
+unfolding formed pages_good laid_good ascends above all_below none_owned queues_good queue_good apart numbers_good request_good some? flag pages_of bits_below bit free_below owned member unless word_of set_of
 may_wait = refl
 
 pub waits_with_a_result : Refused (full_words 0x0200) full_sets (replicate 72 0)
-unfolding formed pages_good laid_good ascends above all_below none_owned queues_good queue_good apart numbers_good request_good some? flag pages_of bits_below bit free_below owned member unless word_of_lem set_of
+unfolding formed pages_good laid_good ascends above all_below none_owned queues_good queue_good apart numbers_good request_good some? flag pages_of bits_below bit free_below owned member unless word_of set_of
 waits_with_a_result = gets_16 (full_words 0x0200) full_sets (replicate 72 0) (not_formed (full_words 0x0200) full_sets (replicate 72 0) refl)
 
 -- Document 02, W9: with 12h for 18h and fifteen pages free it is the LAN91C94's, which has packet 17. Places of its packets, and behind them none.
@@ -166,16 +166,16 @@ abbrev other_words : ℕ → List ℕ
 other_words packet = set (set words 4 0x0f12) 17 packet
 
 pub of_the_other_part : formed 18 (record_view paged (other_words 0x8000) sets queues []) ≡ true
-unfolding formed pages_good laid_good ascends above all_below none_owned queues_good queue_good apart numbers_good request_good some? flag pages_of bits_below bit free_below owned member unless word_of_lem set_of
+unfolding formed pages_good laid_good ascends above all_below none_owned queues_good queue_good apart numbers_good request_good some? flag pages_of bits_below bit free_below owned member unless word_of set_of
 of_the_other_part = refl
 
 -- a result of 18 is no packet's of that part; a page in place 18, or page 18 in place 0, neither
 pub result_past_the_size : Refused (other_words 0x1200) sets queues
-unfolding formed pages_good laid_good ascends above all_below none_owned queues_good queue_good apart numbers_good request_good some? flag pages_of bits_below bit free_below owned member unless word_of_lem set_of
+unfolding formed pages_good laid_good ascends above all_below none_owned queues_good queue_good apart numbers_good request_good some? flag pages_of bits_below bit free_below owned member unless word_of set_of
 result_past_the_size = gets_16 (other_words 0x1200) sets queues (not_formed (other_words 0x1200) (of_part (other_words 0x1200) sets) queues refl)
 
 pub page_past_the_size : Refused (other_words 0x8000) (set sets 0 0x40001) queues
-unfolding formed pages_good laid_good ascends above all_below none_owned queues_good queue_good apart numbers_good request_good some? flag pages_of bits_below bit free_below owned member unless word_of_lem set_of
+unfolding formed pages_good laid_good ascends above all_below none_owned queues_good queue_good apart numbers_good request_good some? flag pages_of bits_below bit free_below owned member unless word_of set_of
 page_past_the_size =
     gets_16 (other_words 0x8000) (set sets 0 0x40001) queues (not_formed (other_words 0x8000) (of_part (other_words 0x8000) (set sets 0 0x40001)) queues refl)
 

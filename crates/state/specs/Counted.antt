@@ -2,7 +2,7 @@
 -- and for each packet whether it is in RX and in TX.
 use Rattle.std.specs.Prelude.{◌≡◌, ◌||◌, List, ℕ, ◌+◌, ◌*◌, ◌/◌, ◌<◌, length}
 use Rattle.std.proofs.Common.{ap, ap₂, sym, ◌∙◌, arith}
-use Rattle.rules.specs.Bits.{bit, word_of_lem}
+use Rattle.rules.specs.Bits.{bit, word_of}
 use Rattle.rules.specs.Lists.{member}
 use Rattle.rules.specs.Chip.{Layout, Pool, free_for, free}
 use Rattle.rules.specs.Mmu.{queued}
@@ -18,7 +18,7 @@ pub record FullCount (c : List ℕ) (p : Pool) : Type 0 where
   pub rx : word c 0 ≡ length p.rx
   pub tx : word c 1 ≡ length p.tx
   pub completion : word c 2 ≡ length p.completion
-  pub mir : word c 3 ≡ word_of_lem (length p.pages) (length (free_for p.layout p.pages))
+  pub mir : word c 3 ≡ word_of (length p.pages) (length (free_for p.layout p.pages))
   pub in_rx : Halves (word c 4) (word c 5) (set_of p.rx)
   pub in_tx : Halves (word c 6) (word c 7) (set_of p.tx)
 
@@ -27,7 +27,7 @@ full_count {l} {w} {s} {q} o = record {
   rx = o.queues.rx.many;
   tx = o.queues.tx.many;
   completion = o.queues.completion.many;
-  mir = o.sets.free ∙ ap (λ (n : ℕ). word_of_lem n (length (free_for l (lists_of l s)))) (sym (numbers_length l s));
+  mir = o.sets.free ∙ ap (λ (n : ℕ). word_of n (length (free_for l (lists_of l s)))) (sym (numbers_length l s));
   in_rx = o.queues.in_rx;
   in_tx = o.queues.in_tx;
 }
@@ -45,7 +45,7 @@ module _ {l : Layout} {w s q mem : List ℕ} (o : InOrderOf l w s q mem) where
   sound = o.ready.sound
 
   pub free_kept : word w 4 / 256 ≡ length (free (view_of l w s q mem))
-  unfolding word_of_lem
+  unfolding word_of
   free_kept = omega (arith, sound.sets.free, part_few sound.sets.part)
 
   pub rx_kept : (k : ℕ) → bit k (rx_bits w) ≡ member k (view_of l w s q mem).pool.rx

@@ -3,7 +3,7 @@ use Rattle.std.specs.Prelude.{refl, ◌⊎◌, Bool, true, false, ℕ, suc, ◌+
 use Rattle.std.proofs.Common.{sym, inl, inr, ⊎_elim, true≢false, arith}
 use mathlib.Core.List.{List, [], ◌∷◌, ◌++◌, List-discrete}
 use Rattle.std.proofs.Math.Decide.{ℕ_discrete, dec_le}
-use Rattle.rules.specs.Bits.{bit, flag, word_of_lem}
+use Rattle.rules.specs.Bits.{bit, flag, word_of}
 use Rattle.rules.specs.Parts.{lan91c94, lan91c96, IsPart}
 use Rattle.rules.specs.Chip.{Layout, page_numbers, free_for}
 use Rattle.rules.specs.Tests.{all_below, formed}
@@ -88,7 +88,7 @@ part? n = either (ℕ_discrete n lan91c94) (ℕ_discrete n lan91c96)
 pages? : (l : Layout) (c s : List ℕ) → Dec (PagesIn l c s)
 pages? l c s =
     asks (λ x. x.part) (part? (length s))
-    (λ a. asks (λ x. x.free) (ℕ_discrete (word c 3) (word_of_lem (length s) (length (free_for l (lists_of l s)))))
+    (λ a. asks (λ x. x.free) (ℕ_discrete (word c 3) (word_of (length s) (length (free_for l (lists_of l s)))))
     (λ b. asks (λ x. x.small) (small? s) (λ d. yes (record { part = a; free = b; small = d }))))
 
 -- All of it, and with the memory.

@@ -2,7 +2,7 @@
 use Rattle.std.specs.Prelude.{◌≡◌, refl, List, ℕ, ◌+◌, ◌*◌, ◌/◌, ◌%◌, ◌<◌}
 use Rattle.std.proofs.Math.Path.{ap}
 use Rattle.std.proofs.Common.{sym, ◌∙◌, arith}
-use Rattle.rules.specs.Bits.{bit, low_byte_lem, high_byte, word_of_lem, word_at}
+use Rattle.rules.specs.Bits.{bit, low_byte, high_byte, word_of, word_at}
 use Rattle.rules.specs.Answers.{done_with}
 use Rattle.rules.specs.Chip.{Layout}
 use Rattle.rules.specs.Link.{shown}
@@ -27,15 +27,15 @@ decoded bank offset h =
 abbrev pub Shows : Register → Lanes → List ℕ → ℕ → Type 0
 Shows k p w x = Does (read_register k p) w (Done (taken p x)) w
 
-halves : (x : ℕ) → x ≡ word_of_lem (x % 256) (x / 256)
-unfolding word_of_lem
+halves : (x : ℕ) → x ≡ word_of (x % 256) (x / 256)
+unfolding word_of
 halves x = omega arith
 
 shows : (k : Register) (p : Lanes) (w : List ℕ) (x : ℕ) → Kept w → ((l : Layout) (s q mem : List ℕ) → read_register k p (view_of l w s q mem) ≡ done_with (taken p x) (view_of l w s q mem)) → Shows k p w x
 shows k p w x h e = record { step = λ l s q mem. sym (e l s q mem); still = refl; kept = h }
 
 taken_none : (p : Lanes) → taken p 0 ≡ 0
-unfolding taken low_byte_lem high_byte
+unfolding taken low_byte high_byte
 taken_none low = refl
 taken_none high = refl
 taken_none both = refl
@@ -55,7 +55,7 @@ module _ (p : Lanes) (w : List ℕ) (h : Kept w) where
 
   pub reads_reserved : Shows RESERVED p w (word w 5)
   unfolding read_register
-  reads_reserved = shows RESERVED p w _ h (λ l s q mem. ap (λ (x : ℕ). done_with (taken p x) (view_of l w s q mem)) (sym (halves (word w 5) ∙ ap (word_of_lem (word w 5 % 256)) h.fixed.reserved_high)))
+  reads_reserved = shows RESERVED p w _ h (λ l s q mem. ap (λ (x : ℕ). done_with (taken p x) (view_of l w s q mem)) (sym (halves (word w 5) ∙ ap (word_of (word w 5 % 256)) h.fixed.reserved_high)))
 
   pub reads_control : Shows CONTROL p w (word w 14)
   unfolding read_register
@@ -66,7 +66,7 @@ module _ (p : Lanes) (w : List ℕ) (h : Kept w) where
   reads_pointer = shows POINTER p w _ h (λ l s q mem. refl)
 
   -- two bytes that stand in a word of their own
-  pair : (k : Register) (x : ℕ) → ((l : Layout) (s q mem : List ℕ) → read_register k p (view_of l w s q mem) ≡ done_with (taken p (word_of_lem (x % 256) (x / 256))) (view_of l w s q mem)) → Shows k p w x
+  pair : (k : Register) (x : ℕ) → ((l : Layout) (s q mem : List ℕ) → read_register k p (view_of l w s q mem) ≡ done_with (taken p (word_of (x % 256) (x / 256))) (view_of l w s q mem)) → Shows k p w x
   pair k x e = shows k p w x h (λ l s q mem. rw (halves x) (e l s q mem))
 
   pub reads_packet : Shows PACKET p w (word w 17)
@@ -109,7 +109,7 @@ module _ (p : Lanes) (w : List ℕ) (h : Kept w) where
   unfolding read_register
   reads_bank =
       let above : word w 7 / 256 ≡ 0x33 = omega (arith, h.fixed.bank_high) in
-      shows BANK p w _ h (λ l s q mem. ap (λ (x : ℕ). done_with (taken p x) (view_of l w s q mem)) (sym (halves (word w 7) ∙ ap (word_of_lem (word w 7 % 256)) above)))
+      shows BANK p w _ h (λ l s q mem. ap (λ (x : ℕ). done_with (taken p x) (view_of l w s q mem)) (sym (halves (word w 7) ∙ ap (word_of (word w 7 % 256)) above)))
 
   pub reads_unused : Shows UNUSED p w 0x3333
   unfolding read_register

@@ -2,7 +2,7 @@
 -- from their entries. So there is only one result of a public entry, and of a step below one: two that meet its promise are equal.
 use Rattle.std.specs.Prelude.{◌≡◌, refl, Bool, List, [], ◌∷◌, ◌++◌, map, ℕ, suc, ◌+◌, ◌*◌, ◌-◌, ◌/◌, ◌%◌, ◌<◌, length, get_or, take, drop, replicate}
 use Rattle.std.proofs.Common.{ap, ap₂, sym, ◌∙◌, arith, take-append-drop, length-drop, ext_get_or, take_all, drop-drop}
-use Rattle.rules.specs.Bits.{flag, word_of_lem, word_at}
+use Rattle.rules.specs.Bits.{flag, word_of, word_at}
 use Rattle.rules.specs.Chip.{Chip}
 use Rattle.rules.specs.Chip as rules
 use Rattle.rules.specs.Answers.{Reply, Effect, Turn}
@@ -37,9 +37,9 @@ words_with r c =
     ∷ r.receiving.rcr
     ∷ r.sending.ecr
     ∷ word c 3
-    ∷ word_of_lem r.receiving.reserved 0x33
+    ∷ word_of r.receiving.reserved 0x33
     ∷ word c 0
-    ∷ word_of_lem r.numbers.bank 0x33
+    ∷ word_of r.numbers.bank 0x33
     ∷ word c 1
     ∷ word c 2
     ∷ word_at 0 r.receiving.station
@@ -49,12 +49,12 @@ words_with r c =
     ∷ r.control
     ∷ (flag r.link.up + 2 * flag r.link.changed)
     ∷ 0
-    ∷ word_of_lem r.numbers.packet r.numbers.result
+    ∷ word_of r.numbers.packet r.numbers.result
     ∷ 0
     ∷ r.pointer
     ∷ 0
     ∷ 0
-    ∷ word_of_lem 0 r.mask
+    ∷ word_of 0 r.mask
     ∷ r.numbers.waiting
     ∷ word_at 0 r.receiving.table
     ∷ word_at 2 r.receiving.table
@@ -72,7 +72,7 @@ counts p =
     length p.rx
     ∷ length p.tx
     ∷ length p.completion
-    ∷ word_of_lem (length p.pages) (length (rules.free_for p.layout p.pages))
+    ∷ word_of (length p.pages) (length (rules.free_for p.layout p.pages))
     ∷ (set_of p.rx % 65536)
     ∷ (set_of p.rx / 65536)
     ∷ (set_of p.tx % 65536)
@@ -82,16 +82,16 @@ counts p =
 abbrev pub words_of : rules.Registers → rules.Pool → List ℕ
 words_of r p = words_with r (counts p)
 
-halves : (x : ℕ) → x ≡ word_of_lem (x % 256) (x / 256)
-unfolding word_of_lem
+halves : (x : ℕ) → x ≡ word_of (x % 256) (x / 256)
+unfolding word_of
 halves x = omega arith
 
-fixed_high : (x : ℕ) → x / 256 ≡ 0x33 → x ≡ word_of_lem (x % 256) 0x33
-unfolding word_of_lem
+fixed_high : (x : ℕ) → x / 256 ≡ 0x33 → x ≡ word_of (x % 256) 0x33
+unfolding word_of
 fixed_high x e = omega arith
 
-fixed_low : (x : ℕ) → x % 256 ≡ 0 → x ≡ word_of_lem 0 (x / 256)
-unfolding word_of_lem
+fixed_low : (x : ℕ) → x % 256 ≡ 0 → x ≡ word_of 0 (x / 256)
+unfolding word_of
 fixed_low x e = omega arith
 
 abbrev Known : List ℕ → Type 0

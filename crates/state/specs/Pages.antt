@@ -2,7 +2,7 @@
 use Rattle.std.specs.Prelude.{◌≡◌, refl, not, List, [], ◌∷◌, map, ℕ, zero, suc, ◌+◌, ◌*◌, eqb, length, get_or, set, replicate}
 use Rattle.std.proofs.Common.{ap, sym, ◌∙◌, arith}
 use Rattle.std.proofs.Math.Dec.{eqb-suc-zero}
-use Rattle.rules.specs.Bits.{word_of_lem}
+use Rattle.rules.specs.Bits.{word_of}
 use Rattle.rules.specs.Lists.{some?, free_below, total, up_from}
 use Rattle.rules.specs.Chip.{Layout, paged, strips, free_for}
 use Rattle.lists.specs.UpFrom.{length_up}
@@ -77,5 +77,5 @@ strips_total k (m ∷ ms) = omega (arith, length_up (8 * k) m, strips_total (suc
 pub free_sets : (s : List ℕ) → free_for paged (map pages_of s) ≡ free_below (length s) (map pages_of s)
 free_sets s = ap (λ (n : ℕ). free_below n (map pages_of s)) (lists_length s)
 
-pub sets_free : {c s : List ℕ} → SetsIn c s → word c 3 ≡ word_of_lem (length s) (length (free_below (length s) (map pages_of s)))
-sets_free {s = s} h = h.free ∙ ap (λ (l : List ℕ). word_of_lem (length s) (length l)) (free_sets s)
+pub sets_free : {c s : List ℕ} → SetsIn c s → word c 3 ≡ word_of (length s) (length (free_below (length s) (map pages_of s)))
+sets_free {s = s} h = h.free ∙ ap (λ (l : List ℕ). word_of (length s) (length l)) (free_sets s)

@@ -2,7 +2,7 @@
 use Rattle.std.specs.Prelude.{◌≡◌, refl, Bool, false, ◌||◌, List, [], ◌∷◌, ◌++◌, map, ℕ, zero, suc, ◌+◌, ◌*◌, ◌-◌, ◌%◌, ◌≤◌, ◌<◌, length, take, drop, get_or, replicate}
 use Rattle.std.proofs.Common.{ap, ap₂, sym, subst, ◌∙◌, arith, length-append, length-drop, take-append-drop, take_at, drop_at, length-take-le}
 use Rattle.std.proofs.lemmas.List.{length-replicate}
-use Rattle.rules.specs.Bits.{word_of_lem}
+use Rattle.rules.specs.Bits.{word_of}
 use Rattle.rules.specs.Parts.{IsPart}
 use Rattle.rules.specs.Lists.{member, owned, unless, free_below}
 use Rattle.rules.specs.Chip.{Layout, Chip, page_numbers, powered}
@@ -18,7 +18,7 @@ use Rattle.state.specs.Entry.{InOrderOf, RightOf, size_in, of_part, record_view,
 
 -- MIR's low byte is the number of packets.
 pub size_told : {l : Layout} {w s q : List ℕ} → SoundOf l w s q → size_in w ≡ length s
-unfolding word_of_lem
+unfolding word_of
 size_told o = omega (arith, o.sets.free, part_few o.sets.part)
 
 -- Of a record in order it is the part's, and there are 24 places.

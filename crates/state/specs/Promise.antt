@@ -1,7 +1,7 @@
 -- What a step over the lent state promises.
 use Rattle.std.specs.Prelude.{◌≡◌, List, ℕ, ◌/◌, ◌%◌, ◌^◌, ◌<◌, length, get_or}
 use Rattle.std.proofs.Common.{ap, sym, subst, ◌∙◌}
-use Rattle.rules.specs.Bits.{word_of_lem}
+use Rattle.rules.specs.Bits.{word_of}
 use Rattle.rules.specs.Parts.{IsPart}
 use Rattle.rules.specs.Chip.{Registers, Layout, paged, Chip, free_for}
 use Rattle.rules.specs.Answers.{Effect, did}
@@ -36,7 +36,7 @@ Small s = (i : ℕ) → get_or s i 0 < 2 ^ 32
 -- as many numbers as a part has packets; MIR has so many and, above it, how many pages are free by them
 pub record PagesIn (l : Layout) (c s : List ℕ) : Type 0 where
   pub part : IsPart (length s)
-  pub free : word c 3 ≡ word_of_lem (length s) (length (free_for l (lists_of l s)))
+  pub free : word c 3 ≡ word_of (length s) (length (free_for l (lists_of l s)))
   pub small : Small s
 
 -- the state is laid out as it must be: one state for each chip

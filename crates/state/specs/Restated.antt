@@ -5,7 +5,7 @@ use Rattle.std.proofs.Common.{ap, ap₂, sym, ◌∙◌, subst, true≢false, in
 use Rattle.std.proofs.Math.Nat.{div-eq_of_lt}
 use Rattle.std.specs.Int.Count.{ones}
 use Rattle.std.proofs.lemmas.List.{length-replicate, get_or-replicate}
-use Rattle.rules.specs.Bits.{bit, flag, word_of_lem}
+use Rattle.rules.specs.Bits.{bit, flag, word_of}
 use Rattle.rules.specs.Lists.{member, some?, total}
 use Rattle.rules.specs.Parts.{IsPart}
 use Rattle.rules.specs.Chip.{paged, free_for}
@@ -279,17 +279,17 @@ module _ (w s q : List ℕ) (typed : (i : ℕ) → word w i < 65536) (fits : Sma
 
   -- the free count, and both queues' bits
   figures_as_count : FiguresFormed (length s) w s q
-      → (word w 4 ≡ word_of_lem (length s) (length (free_for paged (map pages_of s)))) × Halves (word w 28) (word w 29) (set_of (queue_in 0 (word w 6) q)) × Halves (word w 30) (word w 31) (set_of (queue_in 1 (word w 8) q))
-  unfolding word_of_lem
+      → (word w 4 ≡ word_of (length s) (length (free_for paged (map pages_of s)))) × Halves (word w 28) (word w 29) (set_of (queue_in 0 (word w 6) q)) × Halves (word w 30) (word w 31) (set_of (queue_in 1 (word w 8) q))
+  unfolding word_of
   figures_as_count f = (
     omega (arith, size, f.free, free_counted),
     bits_as_set _ _ _ queues.rx_distinct (typed 28) (typed 29) (small_entries s _ few queues.rx_allocated) f.in_rx,
     bits_as_set _ _ _ queues.tx_distinct (typed 30) (typed 31) (small_entries s _ few queues.tx_allocated) f.in_tx,
   )
 
-  count_as_figures : word w 4 ≡ word_of_lem (length s) (length (free_for paged (map pages_of s))) → Halves (word w 28) (word w 29) (set_of (queue_in 0 (word w 6) q)) → Halves (word w 30) (word w 31) (set_of (queue_in 1 (word w 8) q))
+  count_as_figures : word w 4 ≡ word_of (length s) (length (free_for paged (map pages_of s))) → Halves (word w 28) (word w 29) (set_of (queue_in 0 (word w 6) q)) → Halves (word w 30) (word w 31) (set_of (queue_in 1 (word w 8) q))
       → FiguresFormed (length s) w s q
-  unfolding word_of_lem
+  unfolding word_of
   count_as_figures e rx tx = record {
     free = omega (arith, e, free_counted, few);
     in_rx = set_as_bits _ _ _ queues.rx_distinct rx;
@@ -310,8 +310,8 @@ words_restated n w = (
 )
 
 -- The request, beside a MIR that counts the free pages.
-pub request_restated : (w : List ℕ) (n m : ℕ) → n ≤ 24 → word w 4 ≡ word_of_lem n m → RequestFormed (word w 4) (word w 17) (word w 23) ↔ GoodRequest m (registers_in w).numbers
-unfolding word_of_lem
+pub request_restated : (w : List ℕ) (n m : ℕ) → n ≤ 24 → word w 4 ≡ word_of n m → RequestFormed (word w 4) (word w 17) (word w 23) ↔ GoodRequest m (registers_in w).numbers
+unfolding word_of
 request_restated w n m few e = (
   λ f. ⊎_elim (λ none. inl none) (λ p. inr (record { few = p.0; short = omega (arith, e, p.1); unanswered = p.2 })) f,
   λ g. ⊎_elim (λ none. inl none) (λ p. inr (p.few, omega (arith, e, p.short), p.unanswered)) g,

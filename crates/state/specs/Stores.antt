@@ -2,7 +2,7 @@
 -- written out to its 32 words both sides compute.
 use Rattle.std.specs.Prelude.{◌≡◌, refl, List, [], ◌∷◌, ℕ, ◌+◌, ◌*◌, ◌/◌, ◌%◌, ◌<◌, set}
 use Rattle.std.proofs.Common.{◌∙◌, arith}
-use Rattle.rules.specs.Bits.{bit, low_byte_lem, high_byte, word_of_lem}
+use Rattle.rules.specs.Bits.{bit, low_byte, high_byte, word_of}
 use Rattle.rules.specs.Chip.{Registers}
 use Rattle.rules.specs.Fields.{set_tcr, set_ephsr, set_rcr, set_ecr, set_reserved, set_station, set_control, set_packet, set_result, set_waiting, set_pointer, set_mask, set_table, set_bank, set_tx_empty, set_overrun, set_link}
 use Rattle.rules.specs.Registers.{Lanes, low, high, both, merged_at}
@@ -118,25 +118,25 @@ store_link new small w k = stored 15 new (set_link (record { up = bit 0 new; cha
 
 -- Two bytes of the station address or of the multicast table.
 pair_0 : (p : Lanes) (v x : ℕ) (rest : List ℕ) → merged_at p v 0 (x % 256 ∷ x / 256 ∷ rest) ≡ low_after p v x ∷ high_after p v x ∷ rest
-unfolding merged_at low_byte_lem high_byte
+unfolding merged_at low_byte high_byte
 pair_0 low v x rest = refl
 pair_0 high v x rest = refl
 pair_0 both v x rest = refl
 
 pair_2 : (p : Lanes) (v x : ℕ) (b0 b1 : ℕ) (rest : List ℕ) → merged_at p v 2 (b0 ∷ b1 ∷ x % 256 ∷ x / 256 ∷ rest) ≡ b0 ∷ b1 ∷ low_after p v x ∷ high_after p v x ∷ rest
-unfolding merged_at low_byte_lem high_byte
+unfolding merged_at low_byte high_byte
 pair_2 low v x b0 b1 rest = refl
 pair_2 high v x b0 b1 rest = refl
 pair_2 both v x b0 b1 rest = refl
 
 pair_4 : (p : Lanes) (v x : ℕ) (b0 b1 b2 b3 : ℕ) (rest : List ℕ) → merged_at p v 4 (b0 ∷ b1 ∷ b2 ∷ b3 ∷ x % 256 ∷ x / 256 ∷ rest) ≡ b0 ∷ b1 ∷ b2 ∷ b3 ∷ low_after p v x ∷ high_after p v x ∷ rest
-unfolding merged_at low_byte_lem high_byte
+unfolding merged_at low_byte high_byte
 pair_4 low v x b0 b1 b2 b3 rest = refl
 pair_4 high v x b0 b1 b2 b3 rest = refl
 pair_4 both v x b0 b1 b2 b3 rest = refl
 
 pair_6 : (p : Lanes) (v x : ℕ) (b0 b1 b2 b3 b4 b5 : ℕ) (rest : List ℕ) → merged_at p v 6 (b0 ∷ b1 ∷ b2 ∷ b3 ∷ b4 ∷ b5 ∷ x % 256 ∷ x / 256 ∷ rest) ≡ b0 ∷ b1 ∷ b2 ∷ b3 ∷ b4 ∷ b5 ∷ low_after p v x ∷ high_after p v x ∷ rest
-unfolding merged_at low_byte_lem high_byte
+unfolding merged_at low_byte high_byte
 pair_6 low v x b0 b1 b2 b3 b4 b5 rest = refl
 pair_6 high v x b0 b1 b2 b3 b4 b5 rest = refl
 pair_6 both v x b0 b1 b2 b3 b4 b5 rest = refl
@@ -212,7 +212,7 @@ store_mir y = counted (λ w. set w 4 y) (λ w. with_mir y (figures w)) (λ a b c
     record { regs = refl; counted = refl; kept = record { whole = refl; fixed = fix; blank = blank } })
 
 -- All of them, where no packet has pages and no queue has entries, of the part with n packets.
-pub store_none : (n m : ℕ) → m ≡ word_of_lem n n → (w : List ℕ) → Kept w → Recounts (no_figures n) w (set (set (set (set (set (set (set (set w 6 0) 8 0) 9 0) 4 m) 28 0) 29 0) 30 0) 31 0)
+pub store_none : (n m : ℕ) → m ≡ word_of n n → (w : List ℕ) → Kept w → Recounts (no_figures n) w (set (set (set (set (set (set (set (set w 6 0) 8 0) 9 0) 4 m) 28 0) 29 0) 30 0) 31 0)
 unfolding Written
 store_none size mir told = counted (λ w. set (set (set (set (set (set (set (set w 6 0) 8 0) 9 0) 4 mir) 28 0) 29 0) 30 0) 31 0) (λ w. no_figures size) (λ a b c d e f g h i j k l m n o p q r s t u x y z a2 b2 c2 d2 e2 f2 g2 h2 fix blank.
     record { regs = refl; counted = λ ι. 0 ∷ 0 ∷ 0 ∷ told ι ∷ 0 ∷ 0 ∷ 0 ∷ 0 ∷ []; kept = record { whole = refl; fixed = fix; blank = blank } })

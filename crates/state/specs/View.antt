@@ -1,7 +1,7 @@
 -- What the lent state stands for: 32 words of registers, for each packet of the part a number which says its pages, and 72 bytes of queues, RX, TX and completion with 24 places each.
 -- A packet's number is the set of its pages; on the chip of strips (document 02, W3) it is how many pages the packet has. There are as many as the part has packets, 24 or 18 (W9).
 use Rattle.std.specs.Prelude.{◌≡◌, List, [], ◌∷◌, map, ℕ, suc, ◌+◌, ◌*◌, ◌/◌, ◌%◌, ◌<◌, length, get_or, take}
-use Rattle.rules.specs.Bits.{bit, flag, word_of_lem}
+use Rattle.rules.specs.Bits.{bit, flag, word_of}
 use Rattle.rules.specs.Lists.{up_from}
 use Rattle.rules.specs.Chip.{Registers, Layout, paged, strips, Pool, Chip}
 use Rattle.sets.specs.Views.{pages_of}
@@ -58,7 +58,7 @@ with_mir x c = word c 0 ∷ word c 1 ∷ word c 2 ∷ x ∷ word c 4 ∷ word c 
 
 -- The figures where no packet has pages and no queue has entries, of the part with n packets: 1818h of document 01's, "MIR 1212h after reset" of the other (W9).
 abbrev pub no_figures : ℕ → List ℕ
-no_figures n = 0 ∷ 0 ∷ 0 ∷ word_of_lem n n ∷ 0 ∷ 0 ∷ 0 ∷ 0 ∷ []
+no_figures n = 0 ∷ 0 ∷ 0 ∷ word_of n n ∷ 0 ∷ 0 ∷ 0 ∷ 0 ∷ []
 
 -- the entries of queue k: the first `count` of its 24 bytes
 abbrev pub queue_in : ℕ → ℕ → List ℕ → List ℕ

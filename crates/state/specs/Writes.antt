@@ -1,7 +1,7 @@
 -- What a write of each register comes to over the words, and a read of ECR.
 use Rattle.std.specs.Prelude.{◌≡◌, refl, Bool, true, false, cond, List, ℕ, ◌+◌, ◌*◌, ◌/◌, ◌%◌, ◌<◌, set}
 use Rattle.std.proofs.Common.{ap, sym, ◌∙◌, arith}
-use Rattle.rules.specs.Bits.{bit, clear_bit, low_byte_lem}
+use Rattle.rules.specs.Bits.{bit, clear_bit, low_byte}
 use Rattle.rules.specs.Chip.{Link, Registers, Layout, Chip}
 use Rattle.rules.specs.Fields.{set_tcr, set_ephsr, set_rcr, set_ecr, set_control, set_pointer, set_link, in_registers}
 use Rattle.rules.specs.Answers.{Effect, did, done_with, refuse}
@@ -109,7 +109,7 @@ low_does {f} {w} {w'} p e a =
     record { step = λ l s q mem. d.step l s q mem ∙ sym (low_only_lem p (view_of l w s q mem) (did (in_registers f (view_of l w s q mem))) ∙ ap (λ (b : Bool). cond b (refuse 3 (view_of l w s q mem)) (did (in_registers f (view_of l w s q mem)))) e); still = d.still; kept = d.kept }
 
 pub writes_reserved : Low RESERVED 5 (λ v. v % 256)
-unfolding write_register low_byte_lem
+unfolding write_register low_byte
 writes_reserved p v e new w k right = low_does p e (store_reserved (v % 256) new (omega arith) w k right)
 
 pub writes_packet : Low PACKET 17 (λ v. v % 64)

@@ -1,6 +1,6 @@
 // A byte or a word at an address of a packet.
 ghost use Rattle.std.specs.Prelude.{◌≡◌, [], ◌∷◌, ◌+◌, ◌*◌};
-ghost use Rattle.rules.specs.Bits.{low_byte_lem, high_byte};
+ghost use Rattle.rules.specs.Bits.{low_byte, high_byte};
 ghost use Rattle.rules.specs.Packet.{get_bytes, put_bytes};
 ghost use Rattle.rules.specs.Data.{value_of};
 ghost use Rattle.strip_bytes.specs.Strip.{strip_of, InStrip};
@@ -37,7 +37,7 @@ pub fn read_word(memory: &[u8], packet: Packet, at: Address) -> u16
 // Writes the lower byte of the value.
 pub fn write_byte(memory: &mut [u8], packet: Packet, at: Address, value: u16)
     requires { InStrip (at.0 + 1) packet.0 memory.old }
-    ensures { memory.new ≡ put_bytes (low_byte_lem value ∷ []) at.0 (strip_of packet.0) memory.old }
+    ensures { memory.new ≡ put_bytes (low_byte value ∷ []) at.0 (strip_of packet.0) memory.old }
 {
     let i = place_of(packet, at);
     memory[i] = bits::low_byte(value);
@@ -46,7 +46,7 @@ pub fn write_byte(memory: &mut [u8], packet: Packet, at: Address, value: u16)
 // Writes both bytes of the value, the lower first.
 pub fn write_word(memory: &mut [u8], packet: Packet, at: Address, value: u16)
     requires { InStrip (at.0 + 2) packet.0 memory.old }
-    ensures { memory.new ≡ put_bytes (low_byte_lem value ∷ high_byte value ∷ []) at.0 (strip_of packet.0) memory.old }
+    ensures { memory.new ≡ put_bytes (low_byte value ∷ high_byte value ∷ []) at.0 (strip_of packet.0) memory.old }
 {
     let i = place_of(packet, at);
     memory[i] = bits::low_byte(value);

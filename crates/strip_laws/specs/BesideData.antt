@@ -5,7 +5,7 @@ use Rattle.std.proofs.Common.{ap, sym, ◌∙◌, arith, add-zero, div-one, ltb-
 use Rattle.std.proofs.Math.Bool.{true, false}
 use Prim.Native.Nat.{ℕ, zero, suc, ◌+◌, ◌-◌, ◌*◌, ◌/◌, ◌%◌, ◌^◌, ◌≤◌, ◌<◌}
 use Rattle.std.proofs.Math.ListN.{length}
-use Rattle.rules.specs.Bits.{low_byte_lem, high_byte, word_of_lem}
+use Rattle.rules.specs.Bits.{low_byte, high_byte, word_of}
 use Rattle.rules.specs.Chip.{Layout, Chip, pages_at, allocated}
 use Rattle.rules.specs.Answers.{Effect, refuse}
 use Rattle.rules.specs.Packet.{place, get_bytes, put_bytes}
@@ -23,12 +23,12 @@ use Rattle.strip_laws.specs.BesideCommands.{as_is, both_did, same_allocated, hea
 -- The bytes of a value that a read takes from memory.
 module _ (pages memory : List ℕ) (o : Octets memory) where
   low_of : (wide a : ℕ) → 0 < wide → value_of (get_bytes wide a pages memory) % 256 ≡ byte_at pages memory a
-  unfolding value_of get_bytes place word_of_lem
+  unfolding value_of get_bytes place word_of
   low_of zero a h = absurd (omega arith)
   low_of (suc w) a h = omega (arith, o (place pages a))
 
   high_of : (a : ℕ) → value_of (get_bytes 2 a pages memory) / 256 % 256 ≡ byte_at pages memory (suc a)
-  unfolding value_of get_bytes place word_of_lem
+  unfolding value_of get_bytes place word_of
   high_of a = omega (arith, o (place pages a), o (place pages (suc a)))
 
   pub value_byte : (wide a j : ℕ) → wide ≤ 2 → j < wide → value_of (get_bytes wide a pages memory) / 256 ^ j % 256 ≡ byte_at pages memory (a + j)
@@ -53,7 +53,7 @@ width_few high = omega arith
 width_few both = omega arith
 
 pub bytes_written : (p : Lanes) (v : ℕ) → Each (λ b. b < 256) (bytes_of p v)
-unfolding bytes_of low_byte_lem high_byte
+unfolding bytes_of low_byte high_byte
 bytes_written low v = (omega arith, tt)
 bytes_written high v = (omega arith, tt)
 bytes_written both v = (omega arith, (omega arith, tt))

@@ -2,7 +2,7 @@
 use Rattle.std.specs.Prelude.{◌≡◌, Bool, true, false, cond, List, [], ◌∷◌, ◌++◌, ℕ, zero, suc, ◌+◌, ◌*◌, ◌≤◌, ◌<◌, ltb, length, get_or, set, take}
 use Rattle.std.proofs.Math.Path.{refl, subst}
 use Rattle.std.proofs.Common.{ap, sym, ◌∙◌, arith, length-append, length-take, get_or-set_same}
-use Rattle.rules.specs.Bits.{bit, low_byte_lem, high_byte}
+use Rattle.rules.specs.Bits.{bit, low_byte, high_byte}
 use Rattle.rules.specs.Lists.{first_empty}
 use Rattle.rules.specs.Chip.{Layout, Chip, free_for, free}
 use Rattle.rules.specs.Fields.{set_rx, in_pool, in_memory}
@@ -33,7 +33,7 @@ append_small (x ∷ xs) t d e = (d.0, append_small xs t d.1 e)
 
 -- What is stored of a frame is of bytes, as many as its count counts.
 image_small : (f : Frame) (k : ℕ) → Small f.bytes → Small (image f k)
-unfolding image trailer low_byte_lem high_byte
+unfolding image trailer low_byte high_byte
 image_small f k e = (omega arith, (omega arith, (omega arith, (omega arith, append_small (take k f.bytes) _ (take_small k f.bytes e) (go (bit 0 k))))))
   where
     go : (b : Bool) → Small (cond b (0x60 ∷ []) (0 ∷ 0x40 ∷ []))

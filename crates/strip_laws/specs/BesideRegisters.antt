@@ -2,7 +2,7 @@
 use Rattle.std.proofs.Math.Path.{refl, ap, subst}
 use Rattle.std.specs.Prelude.{List, [], ℕ, ltb}
 use Rattle.std.proofs.Math.ListN.{replicate}
-use Rattle.rules.specs.Bits.{bit, low_byte_lem}
+use Rattle.rules.specs.Bits.{bit, low_byte}
 use Rattle.rules.specs.Chip.{Layout, Chip, size, reset_registers, empty_pool}
 use Rattle.rules.specs.Fields.{set_rcr}
 use Rattle.rules.specs.Answers.{Effect}
@@ -86,7 +86,7 @@ module _ {n : ℕ} {l : Layout} {m : Marks} {c : Chip} {ls : List (List ℕ)} {b
   same_write RESERVED p v = by_lanes_both m p _ _ (as_is b b.packets)
   same_write (STATION k) p v = as_is b b.packets
   same_write CONTROL p v = as_is b b.packets
-  same_write COMMAND p v = by_lanes_both _ p _ _ (same_perform b (decode (low_byte_lem v)) (decode_valid (low_byte_lem v)))
+  same_write COMMAND p v = by_lanes_both _ p _ _ (same_perform b (decode (low_byte v)) (decode_valid (low_byte v)))
   same_write PACKET p v = by_lanes_both m p _ _ (as_is b b.packets)
   same_write HEADS p v = as_is b b.packets
   same_write POINTER p v = as_is b b.packets

@@ -6,7 +6,7 @@ use Rattle.std.proofs.Math.Bool.{true, false}
 use mathlib.Core.List.{List, [], ◌∷◌}
 use native.Mathlib.Omega.{arith}
 use Rattle.std.proofs.Math.ListN.{length}
-use Rattle.rules.specs.Bits.{bit, low_byte_lem, high_byte}
+use Rattle.rules.specs.Bits.{bit, low_byte, high_byte}
 use Rattle.rules.specs.Lists.{member, some?}
 use Rattle.rules.specs.Chip.{Layout, Chip, pages_at, allocated}
 use Rattle.rules.specs.Fields.{set_tx, in_registers, in_pool}
@@ -81,15 +81,15 @@ module _ {n : ℕ} {l : Layout} {m : Marks} {c : Chip} {ls : List (List ℕ)} {b
     noted = status_written (pages_at c k) word (in_pool (set_tx rest) (in_registers (sent_registers (good c.regs.sending.tcr s.outcome) s address (not (some? rest))) c))
 
     abbrev bytes' : List ℕ
-    bytes' = put_bytes (low_byte_lem word ∷ high_byte word ∷ []) 0 (get_or ls k []) bytes
+    bytes' = put_bytes (low_byte word ∷ high_byte word ∷ []) 0 (get_or ls k []) bytes
 
     -- the status word is put into both, and the packet retires on both
     status_in_both : Good n l (marked k 0 2 m) noted ls bytes'
-    unfolding low_byte_lem high_byte
+    unfolding low_byte high_byte
     status_in_both = record {
       lists = (both_good b).lists;
       others = (both_good b).others;
-      packets = puts_alike b k 0 (low_byte_lem word ∷ high_byte word ∷ []) (omega arith, (omega arith, tt)) room;
+      packets = puts_alike b k 0 (low_byte word ∷ high_byte word ∷ []) (omega arith, (omega arith, tt)) room;
     }
 
     retires : (y : Bool) → Follows l (cond y (settled_marks (freed k c) (marked k 0 2 m)) (marked k 0 2 m)) (retire y k noted) (retire y k (on l ls bytes' noted))

@@ -1,6 +1,6 @@
 -- Why W3's promise asks that each send reads only written bytes, and says that a data read of another byte may return another value: on two chips of n packets, one of pages and one of strips. Computed, the two main ones at the LAN91C96.
 use Rattle.std.specs.Prelude.{◌≡◌, refl, List, [], ◌∷◌, ◌++◌, map, Bool, true, false, ◌&&◌, ℕ, ◌-◌, length, get_or, take, replicate}
-use Rattle.rules.specs.Bits.{bit, set_bit, clear_bit, flag, low_byte_lem, high_byte, word_of_lem, word_at}
+use Rattle.rules.specs.Bits.{bit, set_bit, clear_bit, flag, low_byte, high_byte, word_of, word_at}
 use Rattle.rules.specs.Lists.{member, some?, owned, unless, free_below, total, up_from, first_empty}
 use Rattle.rules.specs.Parts.{lan91c96}
 use Rattle.rules.specs.Chip.{Layout, paged, strips, Chip, powered}
@@ -22,7 +22,7 @@ pub record Last : Type 0 where
   pub output : List ℕ
 
 unfoldable pub last_of : ℕ → Layout → List Input → Last
-unfolding bit set_bit clear_bit flag low_byte_lem high_byte word_of_lem word_at member some? owned unless free_below total up_from first_empty above ascends all_below apart none_owned pages_good goes_up own_good laid_good queue_good queues_good numbers_good request_good formed fit place get_bytes put_bytes decode perform due settle address advance next if_packet against odd_fixed past if_open value_of read_data write_data register_at misplaced lanes_at taken merged width bytes_of head_of crc_bit crc_bits crc_from crc mirror fcs_word four_bytes forgotten write_tcr low_only read_register write_register access same_bytes bad_crc broadcast group accepted data_length count_of pages_for needed value_for dropped judge group_bits frame_status trailer image after arrive new_rcr write_rcr in_limits byte_count send_length appends padded ended on_wire control_byte put_out good failure_bit collision_bits outcome_bits address_bits nibble counted tally nibbles any_at15 new_ecr new_ephsr auto_release send_head if_usable if_sendable finish serve step_of run_of
+unfolding bit set_bit clear_bit flag low_byte high_byte word_of word_at member some? owned unless free_below total up_from first_empty above ascends all_below apart none_owned pages_good goes_up own_good laid_good queue_good queues_good numbers_good request_good formed fit place get_bytes put_bytes decode perform due settle address advance next if_packet against odd_fixed past if_open value_of read_data write_data register_at misplaced lanes_at taken merged width bytes_of head_of crc_bit crc_bits crc_from crc mirror fcs_word four_bytes forgotten write_tcr low_only read_register write_register access same_bytes bad_crc broadcast group accepted data_length count_of pages_for needed value_for dropped judge group_bits frame_status trailer image after arrive new_rcr write_rcr in_limits byte_count send_length appends padded ended on_wire control_byte put_out good failure_bit collision_bits outcome_bits address_bits nibble counted tally nibbles any_at15 new_ecr new_ephsr auto_release send_head if_usable if_sendable finish serve step_of run_of
 last_of n l inputs =
     let x = run_of n inputs (powered l n) in
     let i = length inputs - 1 in
@@ -85,7 +85,7 @@ written_before_the_grant = (refl, refl)
 
 -- So what is written "starts anew at each grant": the count of packet 1 is written when it is loaded, and not after the grant.
 unfoldable pub count_written : List Access → Bool
-unfolding bit low_byte_lem high_byte word_of_lem member some? owned unless free_below first_empty above ascends all_below apart none_owned pages_good laid_good queue_good queues_good numbers_good request_good formed fit place get_bytes put_bytes decode perform due settle address advance next if_packet against odd_fixed past if_open write_data register_at misplaced lanes_at merged width bytes_of low_only write_register access serve step_of marked anew command_marks write_marks access_marks input_marks written
+unfolding bit low_byte high_byte word_of member some? owned unless free_below first_empty above ascends all_below apart none_owned pages_good laid_good queue_good queues_good numbers_good request_good formed fit place get_bytes put_bytes decode perform due settle address advance next if_packet against odd_fixed past if_open write_data register_at misplaced lanes_at merged width bytes_of low_only write_register access serve step_of marked anew command_marks write_marks access_marks input_marks written
 count_written accesses = let m = written_by 3 (map driver accesses) (powered paged 3) unwritten in m 1 2 && m 1 3
 
 pub starts_anew : (count_written loaded ≡ true) × (count_written granted_anew ≡ false)

@@ -2,7 +2,7 @@
 use Rattle.std.specs.Prelude.{◌≡◌, refl, Bool, true, false, ◌&&◌, List, [], ◌∷◌, ◌++◌, map, ℕ, zero, suc, ◌+◌, ◌-◌, ◌≤◌, ◌<◌, get_or, replicate}
 use Rattle.std.proofs.Common.{ap, ◌∙◌, arith}
 use Rattle.std.proofs.Math.Decide.{ℕ_discrete}
-use Rattle.rules.specs.Bits.{bit, set_bit, clear_bit, flag, low_byte_lem, high_byte, word_of_lem, word_at}
+use Rattle.rules.specs.Bits.{bit, set_bit, clear_bit, flag, low_byte, high_byte, word_of, word_at}
 use Rattle.rules.specs.Lists.{member, some?, owned, unless, free_below, first_empty}
 use Rattle.rules.specs.Parts.{lan91c96}
 use Rattle.rules.specs.Chip.{paged, Chip, powered}
@@ -105,11 +105,11 @@ abbrev pub used : List Input
 used = to_frame ++ map driver drains
 
 used_test : all_minded lan91c96 used (powered paged lan91c96) unwritten ≡ true
-unfolding bit set_bit clear_bit flag low_byte_lem high_byte word_of_lem word_at member some? owned unless free_below first_empty above ascends all_below apart none_owned pages_good laid_good queue_good queues_good numbers_good request_good formed fit place get_bytes put_bytes decode perform due settle address advance next if_packet against odd_fixed past if_open value_of read_data write_data register_at misplaced lanes_at taken merged width bytes_of head_of new_rcr write_rcr forgotten write_tcr low_only read_register write_register access crc_bit crc_bits crc_from crc hash mirror fcs_word four_bytes same_bytes bad_crc broadcast group in_table accepted data_length count_of pages_for needed value_for dropped judge group_bits frame_status trailer image after arrive in_limits byte_count send_length appends padded ended on_wire control_byte put_out good failure_bit collision_bits outcome_bits address_bits nibble counted tally nibbles any_at15 new_ecr new_ephsr auto_release send_head if_usable if_sendable finish serve step_of all_marked reads_marked minded all_minded marked anew command_marks write_marks access_marks frame_marks send_marks input_marks written
+unfolding bit set_bit clear_bit flag low_byte high_byte word_of word_at member some? owned unless free_below first_empty above ascends all_below apart none_owned pages_good laid_good queue_good queues_good numbers_good request_good formed fit place get_bytes put_bytes decode perform due settle address advance next if_packet against odd_fixed past if_open value_of read_data write_data register_at misplaced lanes_at taken merged width bytes_of head_of new_rcr write_rcr forgotten write_tcr low_only read_register write_register access crc_bit crc_bits crc_from crc hash mirror fcs_word four_bytes same_bytes bad_crc broadcast group in_table accepted data_length count_of pages_for needed value_for dropped judge group_bits frame_status trailer image after arrive in_limits byte_count send_length appends padded ended on_wire control_byte put_out good failure_bit collision_bits outcome_bits address_bits nibble counted tally nibbles any_at15 new_ecr new_ephsr auto_release send_head if_usable if_sendable finish serve step_of all_marked reads_marked minded all_minded marked anew command_marks write_marks access_marks frame_marks send_marks input_marks written
 used_test = refl
 
 unfoldable pub used_replies : List Reply
-unfolding bit set_bit clear_bit flag low_byte_lem high_byte word_of_lem word_at member some? owned unless free_below first_empty above ascends all_below apart none_owned pages_good laid_good queue_good queues_good numbers_good request_good formed fit place get_bytes put_bytes decode perform due settle address advance next if_packet against odd_fixed past if_open value_of read_data write_data register_at misplaced lanes_at taken merged width bytes_of head_of new_rcr write_rcr forgotten write_tcr low_only read_register write_register access crc_bit crc_bits crc_from crc hash mirror fcs_word four_bytes same_bytes bad_crc broadcast group in_table accepted data_length count_of pages_for needed value_for dropped judge group_bits frame_status trailer image after arrive in_limits byte_count send_length appends padded ended on_wire control_byte put_out good failure_bit collision_bits outcome_bits address_bits nibble counted tally nibbles any_at15 new_ecr new_ephsr auto_release send_head if_usable if_sendable finish serve step_of run_of
+unfolding bit set_bit clear_bit flag low_byte high_byte word_of word_at member some? owned unless free_below first_empty above ascends all_below apart none_owned pages_good laid_good queue_good queues_good numbers_good request_good formed fit place get_bytes put_bytes decode perform due settle address advance next if_packet against odd_fixed past if_open value_of read_data write_data register_at misplaced lanes_at taken merged width bytes_of head_of new_rcr write_rcr forgotten write_tcr low_only read_register write_register access crc_bit crc_bits crc_from crc hash mirror fcs_word four_bytes same_bytes bad_crc broadcast group in_table accepted data_length count_of pages_for needed value_for dropped judge group_bits frame_status trailer image after arrive in_limits byte_count send_length appends padded ended on_wire control_byte put_out good failure_bit collision_bits outcome_bits address_bits nibble counted tally nibbles any_at15 new_ecr new_ephsr auto_release send_head if_usable if_sendable finish serve step_of run_of
 used_replies = (run_of lan91c96 used (powered paged lan91c96)).replies
 
 -- what is written of packet 0 after these inputs, from address 0 on
@@ -118,7 +118,7 @@ written_up_to w inputs = all_marked w 0 0 (written_by lan91c96 inputs (powered p
 
 -- A send writes its status word, at addresses 0 and 1, which no data write had reached (its packet is given back behind it, which forgets nothing); a stored frame writes all 70 bytes that its count counts, and no more.
 pub used_written : (written_up_to 1 to_send ≡ false) × (written_up_to 2 to_sent ≡ true) × (written_up_to 70 to_frame ≡ true) × (written_up_to 71 to_frame ≡ false)
-unfolding bit set_bit clear_bit flag low_byte_lem high_byte word_of_lem word_at member some? owned unless free_below first_empty above ascends all_below apart none_owned pages_good laid_good queue_good queues_good numbers_good request_good formed fit place get_bytes put_bytes decode perform due settle address advance next if_packet against odd_fixed past if_open value_of read_data write_data register_at misplaced lanes_at taken merged width bytes_of head_of new_rcr write_rcr forgotten write_tcr low_only read_register write_register access crc_bit crc_bits crc_from crc hash mirror fcs_word four_bytes same_bytes bad_crc broadcast group in_table accepted data_length count_of pages_for needed value_for dropped judge group_bits frame_status trailer image after arrive in_limits byte_count send_length appends padded ended on_wire control_byte put_out good failure_bit collision_bits outcome_bits address_bits nibble counted tally nibbles any_at15 new_ecr new_ephsr auto_release send_head if_usable if_sendable finish serve step_of all_marked reads_marked minded all_minded marked anew command_marks write_marks access_marks frame_marks send_marks input_marks written
+unfolding bit set_bit clear_bit flag low_byte high_byte word_of word_at member some? owned unless free_below first_empty above ascends all_below apart none_owned pages_good laid_good queue_good queues_good numbers_good request_good formed fit place get_bytes put_bytes decode perform due settle address advance next if_packet against odd_fixed past if_open value_of read_data write_data register_at misplaced lanes_at taken merged width bytes_of head_of new_rcr write_rcr forgotten write_tcr low_only read_register write_register access crc_bit crc_bits crc_from crc hash mirror fcs_word four_bytes same_bytes bad_crc broadcast group in_table accepted data_length count_of pages_for needed value_for dropped judge group_bits frame_status trailer image after arrive in_limits byte_count send_length appends padded ended on_wire control_byte put_out good failure_bit collision_bits outcome_bits address_bits nibble counted tally nibbles any_at15 new_ecr new_ephsr auto_release send_head if_usable if_sendable finish serve step_of all_marked reads_marked minded all_minded marked anew command_marks write_marks access_marks frame_marks send_marks input_marks written
 used_written = (refl, refl, refl, refl)
 
 -- Its send reads only written bytes,

@@ -1,6 +1,6 @@
 -- Document 02, W3: which bytes of which packet have been "written since its packet was allocated", and which of them a send reads. Definitions over the rules alone: the promise of the chip of strips is stated with them.
 use Rattle.std.specs.Prelude.{◌≡◌, Bool, true, false, cond, not, ◌&&◌, ◌||◌, List, [], ◌∷◌, ℕ, ◌+◌, ◌-◌, ◌≤◌, ◌<◌, eqb, leb, ltb, length, get_or}
-use Rattle.rules.specs.Bits.{low_byte_lem}
+use Rattle.rules.specs.Bits.{low_byte}
 use Rattle.rules.specs.Chip.{Chip, free}
 use Rattle.rules.specs.Answers.{Turn}
 use Rattle.rules.specs.Mmu.{Command, nothing, allocate, reset, remove_rx, remove_and_release, release, enqueue, reset_tx, unknown, decode, lowest_number, due, freed}
@@ -56,7 +56,7 @@ write_marks MIR p v c m = m
 write_marks RESERVED p v c m = m
 write_marks (STATION k) p v c m = m
 write_marks CONTROL p v c m = m
-write_marks COMMAND p v c m = command_marks (decode (low_byte_lem v)) c m
+write_marks COMMAND p v c m = command_marks (decode (low_byte v)) c m
 write_marks PACKET p v c m = m
 write_marks HEADS p v c m = m
 write_marks POINTER p v c m = m

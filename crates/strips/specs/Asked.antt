@@ -1,7 +1,7 @@
 -- Refusal 16 by its tests: what a record with 24 counts is asked on the part with n packets. A record that names n is asked all of it exactly where it holds (`asked_holds`, `holds_asked`).
 use Rattle.std.specs.Prelude.{◌≡◌, refl, List, [], ◌∷◌, ◌++◌, map, ℕ, zero, suc, ◌+◌, ◌-◌, ◌*◌, ◌/◌, length, take, drop, get_or, replicate}
 use Rattle.std.proofs.Common.{ap, sym, subst, ◌∙◌, arith, take-append-drop, length-take-le}
-use Rattle.rules.specs.Bits.{word_of_lem}
+use Rattle.rules.specs.Bits.{word_of}
 use Rattle.rules.specs.Lists.{some?, up_from}
 use Rattle.rules.specs.Parts.{IsPart}
 use Rattle.rules.specs.Chip.{strips, free_for}
@@ -78,8 +78,8 @@ module _ (w s q : List ℕ) (small : Small s) where
       }
 
   -- MIR by its bytes
-  mir : length u ≡ n → length (free_for strips (strips_from 0 u)) ≡ word w 4 / 256 → word w 4 ≡ word_of_lem (length u) (length (free_for strips (strips_from 0 u)))
-  unfolding word_of_lem
+  mir : length u ≡ n → length (free_for strips (strips_from 0 u)) ≡ word w 4 / 256 → word w 4 ≡ word_of (length u) (length (free_for strips (strips_from 0 u)))
+  unfolding word_of
   mir e f = omega (arith, e, f)
 
   pub asked_holds : length s ≡ 24 → Asked n w s q → HoldsOf strips w s q

@@ -5,7 +5,7 @@ use Rattle.std.proofs.Math.Bool.{true, false, true≢false}
 use borrow.Author.Tests.{leb-true, leb-false}
 use Rattle.std.proofs.Math.ListN.{length}
 use Rattle.std.proofs.lemmas.List.{length-replicate}
-use Rattle.rules.specs.Bits.{bit, low_byte_lem}
+use Rattle.rules.specs.Bits.{bit, low_byte}
 use Rattle.rules.specs.Lists.{member, some?, first_empty}
 use Rattle.rules.specs.Chip.{Registers, Layout, paged, strips, Chip, size, page_numbers, free, powered}
 use Rattle.rules.specs.Fields.{set_rx, set_completion, in_registers, in_pool, in_memory}
@@ -125,9 +125,9 @@ module _ (n : ℕ) where
 
     keeps_interrupt : (p : Lanes) (v : ℕ) → Fits n (write_interrupt p v c)
     unfolding write_interrupt
-    keeps_interrupt low v = keeps_acknowledge (low_byte_lem v)
+    keeps_interrupt low v = keeps_acknowledge (low_byte v)
     keeps_interrupt high v = w
-    keeps_interrupt both v = keeps_acknowledge (low_byte_lem v)
+    keeps_interrupt both v = keeps_acknowledge (low_byte v)
 
     pub keeps_write : (r : Register) (p : Lanes) (v : ℕ) → Kept (write_register r p v c)
     unfolding write_register
@@ -139,7 +139,7 @@ module _ (n : ℕ) where
     keeps_write RESERVED p v = by_lanes c Kept p _ w w
     keeps_write (STATION k) p v = w
     keeps_write CONTROL p v = w
-    keeps_write COMMAND p v = by_lanes c Kept p _ w (keeps_perform (decode (low_byte_lem v)) (decode_valid (low_byte_lem v)))
+    keeps_write COMMAND p v = by_lanes c Kept p _ w (keeps_perform (decode (low_byte v)) (decode_valid (low_byte v)))
     keeps_write PACKET p v = by_lanes c Kept p _ w (beside w.0 (with_packet w.0.numbers (v % 64) (omega arith)) w.0.request, w.1)
     keeps_write HEADS p v = w
     keeps_write POINTER p v = w

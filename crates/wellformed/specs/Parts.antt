@@ -1,7 +1,7 @@
 -- The two parts (document 02, W9): what code needs to know of a part's size n, and that the step of either part is the step of the part that the chip is.
 use Rattle.std.specs.Prelude.{◌≡◌, refl, true, false, ℕ, ◌≤◌, ◌<◌, length}
 use Rattle.std.proofs.Common.{ap, sym, ◌∙◌, inl, inr, arith}
-use Rattle.rules.specs.Parts.{lan91c94, lan91c96, IsPart, part_of_lem}
+use Rattle.rules.specs.Parts.{lan91c94, lan91c96, IsPart, part_of}
 use Rattle.rules.specs.Chip.{Chip, size}
 use Rattle.rules.specs.Answers.{Turn, refused}
 use Rattle.rules.specs.Step.{Input, lent, serve, step_of, step}
@@ -17,15 +17,15 @@ part_few (inl e) = omega (arith, e)
 part_few (inr e) = omega (arith, e)
 
 -- The part with its number of packets is itself.
-pub part_of : {n : ℕ} → IsPart n → part_of_lem n ≡ n
-unfolding part_of_lem
-part_of (inl e) = rw e refl
-part_of (inr e) = rw e refl
+pub part_of_lem : {n : ℕ} → IsPart n → part_of n ≡ n
+unfolding part_of
+part_of_lem (inl e) = rw e refl
+part_of_lem (inr e) = rw e refl
 
 module _ {n : ℕ} (i : Input) (c : Chip) where
   -- On a chip with as many packets the step is that part's,
   pub step_of_part : IsPart n → size c ≡ n → step i c ≡ step_of n i c
-  step_of_part p e = ap (λ (k : ℕ). step_of (part_of_lem k) i c) e ∙ ap (λ (k : ℕ). step_of k i c) (part_of p)
+  step_of_part p e = ap (λ (k : ℕ). step_of (part_of k) i c) e ∙ ap (λ (k : ℕ). step_of k i c) (part_of_lem p)
 
   -- and on one that is well formed and has its memory it goes by its input.
   pub step_serves : IsPart n → Fits n c → step i c ≡ serve i c

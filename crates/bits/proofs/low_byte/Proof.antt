@@ -1,11 +1,11 @@
 -- The remainder by 256.
 use borrow.Author.Rules.{rules}
-use Rattle.rules.specs.Bits.{low_byte_lem}
+use Rattle.rules.specs.Bits.{low_byte}
 use Rattle.bits.proofs.low_byte.Statement.{statement}
 use Rattle.bits.proofs.low_byte.Tie as tie
 
 returns : tie.Need-returns
-unfolding low_byte_lem
+unfolding low_byte
 returns c = search rules
 
 pub low_byte_spec : {M : Type 1} → statement M

@@ -7,7 +7,7 @@ use native.Mathlib.Omega.{arith}
 use borrow.Author.Rules.{rules}
 use borrow.Author.Tests.{not-true, not-false}
 use lib.ListN.{length}
-use Rattle.rules.specs.Bits.{word_of_lem}
+use Rattle.rules.specs.Bits.{word_of}
 use Rattle.rules.specs.Lists.{free_below}
 use Rattle.rules.specs.Parts.{IsPart}
 use Rattle.lists.specs.Facts.{refutes, agrees, free_few}
@@ -20,7 +20,7 @@ use Rattle.guard.specs.Asked.{Asked, holds_asked, asked_holds}
 use Rattle.guard.proofs.well_formed.Statement.{statement}
 use Rattle.guard.proofs.well_formed.Tie as tie
 
-module _ (n : tie.After-size-in) where
+module _ (n : tie.After-size_in-size) where
   abbrev s : tie.Start
   s = n.before.before.before.before
 
@@ -35,116 +35,116 @@ module _ (n : tie.After-size-in) where
 
   -- how many packets it names
   abbrev size : ℕ
-  size = n.size_in.result
+  size = n.size_in-size.result
 
   asked : Holds w p q → Asked size w p q
-  asked h = subst (λ (m : ℕ). Asked m w p q) (sym n.size_in.ensures) (holds_asked h)
+  asked h = subst (λ (m : ℕ). Asked m w p q) (sym n.size_in-size.ensures) (holds_asked h)
 
   holds : Asked size w p q → Holds w p q
-  holds a = asked_holds s.pre.1 (λ i. omega (arith, n.before.before.shared-slice-known2.given i)) (subst (λ (m : ℕ). Asked m w p q) n.size_in.ensures a)
+  holds a = asked_holds s.requires.1 (λ i. omega (arith, n.shared_slice_known-2-1.given i)) (subst (λ (m : ℕ). Asked m w p q) n.size_in-size.ensures a)
 
-returns : tie.Need-returns
-returns c = refutes c.before.is_part.ensures (λ h. (asked c.before.before h).part) (not-true _ c.if1.true)
+returns : tie.Need-returns-then-not-is_part
+returns c = refutes c.is_part.ensures (λ h. (asked c.before.before h).part) (c.if-not-is_part.true)
 
 -- A part has so many, at most 24.
-part : (e : tie.Else1) → IsPart (size e.before.before)
-part e = e.before.is_part.ensures.sound (not-false _ e.if1.false)
+part : (e : tie.Else-not-is_part) → IsPart (size e.before.before)
+part e = e.is_part.ensures.sound (e.if-not-is_part.false)
 
-returns-2 : tie.Need-returns-2
-returns-2 c = refutes c.before.words-good.ensures (λ h. (asked c.before.before.before.before h).words) (not-true _ c.if2.true)
+returns-2 : tie.Need-returns-then-not-words_good
+returns-2 c = refutes c.words_good.ensures (λ h. (asked c.before.before.before.before h).words) (c.if-not-words_good.true)
 
-empty-from-requires : tie.Need-empty-from-requires
-empty-from-requires c κs = let e = c.before.before in ((s e.before.before).pre.1, part_few (part e))
+empty-from-requires : tie.Need-empty_from-requires
+empty-from-requires c κs = let e = c.before.before in ((s c.before.before.before.before).requires.1, part_few (part e))
 
-returns-3 : tie.Need-returns-3
-returns-3 c = refutes c.before.empty-from.ensures (λ h. (asked c.before.before.before.before.before.before h).rest) (not-true _ c.if3.true)
+returns-3 : tie.Need-returns-then-not-empty_from
+returns-3 c = refutes c.empty_from.ensures (λ h. (asked c.before.before.before.before.before.before h).rest) (c.if-not-empty_from.true)
 
-abbrev one : tie.Else3 → tie.Else1
+abbrev one : tie.Else-not-empty_from → tie.Else-not-is_part
 one e = e.before.before.before.before
 
-audit-requires : tie.Need-audit-requires
-audit-requires c κs = ((s (one c).before.before).pre.1, part_few (part (one c)))
+audit-requires : tie.Need-audit-pages-requires
+audit-requires c κs = ((s (one c).before.before).requires.1, part_few (part (one c)))
 
-returns-4 : tie.Need-returns-4
-returns-4 c = let a = c.before.before in refutes a.audit.ensures.0 (λ h. (asked (one a.before).before.before h).pages) (not-true _ c.if4.true)
+returns-4 : tie.Need-returns-then-not-pages
+returns-4 c = let a = c in refutes a.audit-pages.ensures.0 (λ h. (asked (one c.before.before.before).before.before h).pages) (c.if-not-pages.true)
 
 -- The pages are good, and so many are free.
-module _ (e : tie.Else4) where
-  abbrev a : tie.After-audit
+module _ (e : tie.Else-not-pages) where
+  abbrev a : tie.After-audit-pages
   a = e.before.before
 
-  abbrev n : tie.After-size-in
+  abbrev n : tie.After-size_in-size
   n = (one a.before).before.before
 
   abbrev free : ℕ
   free = length (free_below (size n) (map pages_of (p n)))
 
-  good : a.audit.result.0 ≡ true
-  good = not-false _ e.if4.left
+  good : a.audit-pages.result.0 ≡ true
+  good = e.if-not-pages.false
 
-  counted : a.audit.result.1 ≡ free
-  counted = a.audit.ensures.1 ∙ ap (λ (b : Bool). cond b free 0) good
+  counted : a.audit-pages.result.1 ≡ free
+  counted = a.audit-pages.ensures.1 ∙ ap (λ (b : Bool). cond b free 0) good
 
   few : size n ≤ 24
   few = part_few (part (one a.before))
 
-  free-small : a.audit.result.1 ≤ 24
+  free-small : a.audit-pages.result.1 ≤ 24
   free-small = omega (arith, counted, free_few (size n) (map pages_of (p n)), few)
 
-cast-if5 : tie.Need-overflow-cast-if5
-cast-if5 c = omega (arith, c.shared-slice-known4.given 4)
+cast-if5 : tie.Need-overflow_cast-words
+cast-if5 c = omega (arith, c.shared_slice_known-4-1.given 4)
 
-cast-if5-2 : tie.Need-overflow-cast-if5-2
+cast-if5-2 : tie.Need-overflow_cast-words-2
 cast-if5-2 c = omega (arith, few c.before)
 
-mul-if5 : tie.Need-overflow-mul-if5
+mul-if5 : tie.Need-overflow_mul-pages
 mul-if5 c = omega (arith, free-small c.before.before)
 
-add-if5 : tie.Need-overflow-add-if5
+add-if5 : tie.Need-overflow_add-size
 add-if5 c = omega (arith, free-small c.before.before, few c.before.before)
 
-returns-5 : tie.Need-returns-5
-unfolding word_of_lem
-returns-5 c = let e = c.before.before.before in never (λ h. omega (arith, c.if5.true, (asked (n e) h).free, counted e))
+returns-5 : tie.Need-returns-then-words-size
+unfolding word_of
+returns-5 c = let e = c.before.before.before in never (λ h. omega (arith, c.if-words-size.true, (asked (n e) h).free, counted e))
 
 -- MIR counts them.
-abbrev four : tie.Else5 → tie.Else4
+abbrev four : tie.Else-words-size → tie.Else-not-pages
 four e = e.before.before.before
 
-mir-counted : (e : tie.Else5) → word (w (n (four e))) 4 ≡ word_of_lem (size (n (four e))) (free (four e))
-unfolding word_of_lem
-mir-counted e = omega (arith, e.if5.false, counted (four e))
+mir-counted : (e : tie.Else-words-size) → word (w (n (four e))) 4 ≡ word_of (size (n (four e))) (free (four e))
+unfolding word_of
+mir-counted e = omega (arith, e.if-words-size.false, counted (four e))
 
-abbrev five : tie.After-request-good → tie.Else5
+abbrev five : tie.After-request_good → tie.Else-words-size
 five r = r.before.before.before.before
 
-returns-6 : tie.Need-returns-6
-returns-6 c = refutes c.before.request-good.ensures (λ h. (asked (n (four (five c.before))) h).request) (not-true _ c.if6.true)
+returns-6 : tie.Need-returns-then-not-request_good
+returns-6 c = refutes c.request_good.ensures (λ h. (asked (n (four (five c.before))) h).request) (c.if-not-request_good.true)
 
-queues-good-requires : tie.Need-queues-good-requires
-queues-good-requires c κs = let e = four (five c.before) in ((s (n e)).pre.0, (s (n e)).pre.1, (s (n e)).pre.2, few e)
+queues-good-requires : tie.Need-queues_good-requires
+queues-good-requires c κs = let e = four (five c.before) in ((s (n e)).requires.0, (s (n e)).requires.1, (s (n e)).requires.2, few e)
 
-returns-7 : tie.Need-returns-7
+returns-7 : tie.Need-returns
 returns-7 c =
     let r = c.before.before in
     let e = four (five r) in
     let places = (a e).before.before in
     let words = places.before.before in
-    agrees c.queues-good.ensures
+    agrees c.queues_good.ensures
     (λ g. holds (n e)
     (record {
       part = part (one (a e).before);
-      words = words.words-good.ensures.sound (not-false _ places.before.if2.left);
-      rest = places.empty-from.ensures.sound (not-false _ (a e).before.if3.left);
-      pages = (a e).audit.ensures.0.sound (good e);
+      words = words.words_good.ensures.sound (places.if-not-words_good.false);
+      rest = places.empty_from.ensures.sound (not-false _ (a e).if-not-empty_from.false);
+      pages = (a e).audit-pages.ensures.0.sound (good e);
       free = mir-counted (five r);
-      request = r.request-good.ensures.sound (not-false _ c.before.if6.false);
+      request = r.request_good.ensures.sound (c.if-not-request_good.false);
       queues = g;
     }))
     (λ h. (asked (n e) h).queues)
 
-pub well-formed-spec : {M : Type 1} → statement M
-well-formed-spec =
+pub well_formed_spec : {M : Type 1} → statement M
+well_formed_spec =
     tie.close
     (tie.spec
     (λ c κs. search rules) (λ c κs. search rules) returns (λ c κs. search rules) returns-2 empty-from-requires returns-3 audit-requires returns-4

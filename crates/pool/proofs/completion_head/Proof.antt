@@ -6,6 +6,6 @@ use Rattle.pool.proofs.completion_head.Tie as tie
 returns : tie.Need-returns
 returns c = c.head.ensures
 
-pub completion-head-spec : {M : Type 1} → statement M
-completion-head-spec =
+pub completion_head_spec : {M : Type 1} → statement M
+completion_head_spec =
     tie.close (tie.spec (λ c. search rules) (λ c. search rules) (λ c. search rules) (λ c κs. search rules) returns)

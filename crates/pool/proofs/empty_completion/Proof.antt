@@ -12,15 +12,15 @@ use Rattle.pool.proofs.empty_completion.Tie as tie
 
 returns : tie.Need-returns
 returns c =
-    let s = c.before.before.before.before.before.before in
+    let s = c in
     let h = s.requires.1 in
     let w = s.args.words.now in
     let q = s.args.queues.now in
-    let u = emptied (slots 2 q) _ c.before.before.empty.ensures in
+    let u = emptied (slots 2 q) _ c.empty.ensures in
     rejoined (store_completion _ w s.requires.0) refl (requeued_completion (figures w) q _ _ _ h u.0 (u.1 ∙ part_long 2 q h.long (omega arith)))
 
-pub empty-completion-spec : {M : Type 1} → statement M
-empty-completion-spec =
+pub empty_completion_spec : {M : Type 1} → statement M
+empty_completion_spec =
     tie.close
     (tie.spec
     (λ c. search rules)

@@ -14,16 +14,16 @@ use Rattle.pool.proofs.empty_tx.Tie as tie
 returns : tie.Need-returns
 unfolding set_of
 returns c =
-    let j = c.before.before.before.before.before in
-    let s = j.before.before.before.before.before in
+    let j = c in
+    let s = c in
     let h = s.requires.1 in
     let q = s.args.queues.now in
-    let u = emptied (slots 1 q) _ j.before.empty.ensures in
-    rejoined c.before.before.store_tx.ensures refl
+    let u = emptied (slots 1 q) _ j.empty.ensures in
+    rejoined c.store_tx.ensures refl
     (requeued_tx (figures s.args.words.now) q _ _ _ h u.0 (u.1 ∙ part_long 1 q h.long (omega arith)) _ _ (halves 0 0 refl))
 
-pub empty-tx-spec : {M : Type 1} → statement M
-empty-tx-spec =
+pub empty_tx_spec : {M : Type 1} → statement M
+empty_tx_spec =
     tie.close
     (tie.spec
     (λ c. search rules)

@@ -9,10 +9,10 @@ use Rattle.pool.proofs.is_queued.Tie as tie
 
 returns : tie.Need-returns
 returns c =
-    let t = c.before in
-    let r = t.before in
-    let k = r.before.before.args.packet.0 in
-    c.has.ensures ∙ bit_or_lem k _ _ ∙ ap₂ ◌||◌ (ap (bit k) r.rx-bits.ensures) (ap (bit k) t.tx-bits.ensures)
+    let t = c in
+    let r = c in
+    let k = r.args.packet.0 in
+    c.has.ensures ∙ bit_or_lem k _ _ ∙ ap₂ ◌||◌ (ap (bit k) r.rx_bits-rx.ensures) (ap (bit k) t.tx_bits-tx.ensures)
 
-pub is-queued-spec : {M : Type 1} → statement M
-is-queued-spec = tie.close (tie.spec (λ c κs. search rules) (λ c κs. search rules) (λ c κs. search rules) returns)
+pub is_queued_spec : {M : Type 1} → statement M
+is_queued_spec = tie.close (tie.spec (λ c κs. search rules) (λ c κs. search rules) (λ c κs. search rules) returns)

@@ -12,16 +12,16 @@ use Rattle.pool.proofs.join_completion.Tie as tie
 
 returns : tie.Need-returns
 returns c =
-    let s = c.before.before.before.before.before.before.before in
+    let s = c in
     let h = s.requires.1 in
     let w = s.args.words.now in
     let q = s.args.queues.now in
     let long = part_long 2 q h.long (omega arith) in
-    let u = pushed _ _ _ _ _ c.before.before.push.ensures (omega (arith, long, s.requires.2)) h.completion in
+    let u = pushed _ _ _ _ _ c.push.ensures (omega (arith, long, s.requires.2)) h.completion in
     rejoined (store_completion _ w s.requires.0) refl (requeued_completion (figures w) q _ _ _ h u.0 (u.1 ∙ long))
 
-pub join-completion-spec : {M : Type 1} → statement M
-join-completion-spec =
+pub join_completion_spec : {M : Type 1} → statement M
+join_completion_spec =
     tie.close
     (tie.spec
     (λ c. search rules)

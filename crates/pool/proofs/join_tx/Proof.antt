@@ -10,26 +10,26 @@ use Rattle.pool.proofs.Marks.{room, joined}
 use Rattle.pool.proofs.join_tx.Statement.{statement}
 use Rattle.pool.proofs.join_tx.Tie as tie
 
-with-requires : tie.Need-with-requires
+with-requires : tie.Need-with-bits-requires
 with-requires c κs =
-    let s = c.before.before.before.before.before in
-    room _ _ c.tx-bits.ensures s.requires.1.in_tx s.args.packet.0 s.requires.3
+    let s = c in
+    room _ _ c.tx_bits.ensures s.requires.1.in_tx s.args.packet.0 s.requires.3
 
 returns : tie.Need-returns
 returns c =
-    let j = c.before.before.before.before.before in
-    let b = j.before.before.before in
-    let s = b.before.before.before.before.before.before in
+    let j = c in
+    let b = c in
+    let s = c in
     let h = s.requires.1 in
     let q = s.args.queues.now in
     let long = part_long 1 q h.long (omega arith) in
-    let u = pushed _ _ _ _ _ j.before.push.ensures (omega (arith, long, s.requires.2)) h.tx in
-    rejoined c.before.before.store_tx.ensures refl
+    let u = pushed _ _ _ _ _ j.push.ensures (omega (arith, long, s.requires.2)) h.tx in
+    rejoined c.store_tx.ensures refl
     (requeued_tx (figures s.args.words.now) q _ _ _ h u.0 (u.1 ∙ long) _ _
-    (joined _ _ b.before.tx-bits.ensures h.in_tx _ _ b.with.ensures))
+    (joined _ _ b.tx_bits.ensures h.in_tx _ _ b.with-bits.ensures))
 
-pub join-tx-spec : {M : Type 1} → statement M
-join-tx-spec =
+pub join_tx_spec : {M : Type 1} → statement M
+join_tx_spec =
     tie.close
     (tie.spec
     (λ c. search rules)

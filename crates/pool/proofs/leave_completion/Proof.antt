@@ -12,15 +12,15 @@ use Rattle.pool.proofs.leave_completion.Tie as tie
 
 returns : tie.Need-returns
 returns c =
-    let s = c.before.before.before.before.before.before.before in
+    let s = c in
     let h = s.requires.1 in
     let w = s.args.words.now in
     let q = s.args.queues.now in
-    let u = popped _ _ _ _ c.before.before.pop.ensures s.requires.2 h.completion in
+    let u = popped _ _ _ _ c.pop.ensures s.requires.2 h.completion in
     rejoined (store_completion _ w s.requires.0) refl (requeued_completion (figures w) q _ _ _ h u.0 (u.1 ∙ part_long 2 q h.long (omega arith)))
 
-pub leave-completion-spec : {M : Type 1} → statement M
-leave-completion-spec =
+pub leave_completion_spec : {M : Type 1} → statement M
+leave_completion_spec =
     tie.close
     (tie.spec
     (λ c. search rules)

@@ -10,31 +10,31 @@ use Rattle.pool.proofs.Marks.{there, left}
 use Rattle.pool.proofs.leave_rx.Statement.{statement}
 use Rattle.pool.proofs.leave_rx.Tie as tie
 
-without-requires : tie.Need-without-requires
+without-requires : tie.Need-without-bits-requires
 without-requires c κs =
-    let a = c.before.before in
-    let s = a.before.before.before.before.before in
+    let a = c in
+    let s = c in
     let h = s.requires.1 in
-    there _ _ c.rx-bits.ensures h.in_rx _ (omega (arith, h.rx.many, s.requires.2)) (a.rx-head.ensures ∙ head_told 0 _ s.args.queues.now h.rx s.requires.2)
+    there _ _ c.rx_bits-before.ensures h.in_rx _ (omega (arith, h.rx.many, s.requires.2)) (a.rx_head-head.ensures ∙ head_told 0 _ s.args.queues.now h.rx s.requires.2)
 
 returns : tie.Need-returns
 returns c =
-    let j = c.before.before.before.before.before in
-    let b = j.before.before.before in
-    let a = b.before.before.before in
-    let s = a.before.before.before.before.before in
+    let j = c in
+    let b = c in
+    let a = c in
+    let s = c in
     let h = s.requires.1 in
     let q = s.args.queues.now in
-    let u = popped _ _ _ _ j.before.pop.ensures s.requires.2 h.rx in
-    let head = a.rx-head.ensures ∙ head_told 0 _ s.args.queues.now h.rx s.requires.2 in (
+    let u = popped _ _ _ _ j.pop.ensures s.requires.2 h.rx in
+    let head = a.rx_head-head.ensures ∙ head_told 0 _ s.args.queues.now h.rx s.requires.2 in (
       head,
-      rejoined c.before.before.store_rx.ensures refl
+      rejoined c.store_rx.ensures refl
           (requeued_rx (figures s.args.words.now) q _ _ _ h u.0 (u.1 ∙ part_long 0 q h.long (omega arith)) _ _
-          (left _ _ b.before.rx-bits.ensures h.in_rx _ (omega (arith, h.rx.many, s.requires.2)) head _ b.without.ensures)),
+          (left _ _ b.rx_bits-before.ensures h.in_rx _ (omega (arith, h.rx.many, s.requires.2)) head _ b.without-bits.ensures)),
     )
 
-pub leave-rx-spec : {M : Type 1} → statement M
-leave-rx-spec =
+pub leave_rx_spec : {M : Type 1} → statement M
+leave_rx_spec =
     tie.close
     (tie.spec
     (λ c. search rules)

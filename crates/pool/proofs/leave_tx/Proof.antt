@@ -10,31 +10,31 @@ use Rattle.pool.proofs.Marks.{there, left}
 use Rattle.pool.proofs.leave_tx.Statement.{statement}
 use Rattle.pool.proofs.leave_tx.Tie as tie
 
-without-requires : tie.Need-without-requires
+without-requires : tie.Need-without-bits-requires
 without-requires c κs =
-    let a = c.before.before in
-    let s = a.before.before.before.before.before in
+    let a = c in
+    let s = c in
     let h = s.requires.1 in
-    there _ _ c.tx-bits.ensures h.in_tx _ (omega (arith, h.tx.many, s.requires.2)) (a.tx-head.ensures ∙ head_told 1 _ s.args.queues.now h.tx s.requires.2)
+    there _ _ c.tx_bits-before.ensures h.in_tx _ (omega (arith, h.tx.many, s.requires.2)) (a.tx_head-head.ensures ∙ head_told 1 _ s.args.queues.now h.tx s.requires.2)
 
 returns : tie.Need-returns
 returns c =
-    let j = c.before.before.before.before.before in
-    let b = j.before.before.before in
-    let a = b.before.before.before in
-    let s = a.before.before.before.before.before in
+    let j = c in
+    let b = c in
+    let a = c in
+    let s = c in
     let h = s.requires.1 in
     let q = s.args.queues.now in
-    let u = popped _ _ _ _ j.before.pop.ensures s.requires.2 h.tx in
-    let head = a.tx-head.ensures ∙ head_told 1 _ s.args.queues.now h.tx s.requires.2 in (
+    let u = popped _ _ _ _ j.pop.ensures s.requires.2 h.tx in
+    let head = a.tx_head-head.ensures ∙ head_told 1 _ s.args.queues.now h.tx s.requires.2 in (
       head,
-      rejoined c.before.before.store_tx.ensures refl
+      rejoined c.store_tx.ensures refl
           (requeued_tx (figures s.args.words.now) q _ _ _ h u.0 (u.1 ∙ part_long 1 q h.long (omega arith)) _ _
-          (left _ _ b.before.tx-bits.ensures h.in_tx _ (omega (arith, h.tx.many, s.requires.2)) head _ b.without.ensures)),
+          (left _ _ b.tx_bits-before.ensures h.in_tx _ (omega (arith, h.tx.many, s.requires.2)) head _ b.without-bits.ensures)),
     )
 
-pub leave-tx-spec : {M : Type 1} → statement M
-leave-tx-spec =
+pub leave_tx_spec : {M : Type 1} → statement M
+leave_tx_spec =
     tie.close
     (tie.spec
     (λ c. search rules)

@@ -6,5 +6,5 @@ use Rattle.pool.proofs.rx_head.Tie as tie
 returns : tie.Need-returns
 returns c = c.head.ensures
 
-pub rx-head-spec : {M : Type 1} → statement M
-rx-head-spec = tie.close (tie.spec (λ c. search rules) (λ c. search rules) (λ c. search rules) (λ c κs. search rules) returns)
+pub rx_head_spec : {M : Type 1} → statement M
+rx_head_spec = tie.close (tie.spec (λ c. search rules) (λ c. search rules) (λ c. search rules) (λ c κs. search rules) returns)

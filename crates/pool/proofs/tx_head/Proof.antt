@@ -6,5 +6,5 @@ use Rattle.pool.proofs.tx_head.Tie as tie
 returns : tie.Need-returns
 returns c = c.head.ensures
 
-pub tx-head-spec : {M : Type 1} → statement M
-tx-head-spec = tie.close (tie.spec (λ c. search rules) (λ c. search rules) (λ c. search rules) (λ c κs. search rules) returns)
+pub tx_head_spec : {M : Type 1} → statement M
+tx_head_spec = tie.close (tie.spec (λ c. search rules) (λ c. search rules) (λ c. search rules) (λ c κs. search rules) returns)

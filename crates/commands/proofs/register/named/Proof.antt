@@ -1,11 +1,11 @@
 -- The low byte of the register's word.
-use Rattle.rules.specs.Bits.{low_byte_lem}
+use Rattle.rules.specs.Bits.{low_byte}
 use borrow.Author.Rules.{rules}
 use Rattle.commands.proofs.register.named.Statement.{statement}
 use Rattle.commands.proofs.register.named.Tie as tie
 
 returns : tie.Need-returns
-unfolding low_byte_lem
+unfolding low_byte
 returns c = c.low-byte.ensures
 
 pub named-spec : {M : Type 1} → statement M

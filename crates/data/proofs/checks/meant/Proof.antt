@@ -6,7 +6,7 @@ use mathlib.Core.List.{List}
 use Prim.Native.Nat.{ℕ}
 use native.Mathlib.Omega.{arith}
 use borrow.Author.Tests.{not-true, not-false}
-use Rattle.rules.specs.Bits.{low_byte_lem}
+use Rattle.rules.specs.Bits.{low_byte}
 use Rattle.rules.specs.Data.{rcv}
 use Rattle.lists.specs.Facts.{head_and_rest}
 use Rattle.state.specs.View.{word, queue_in}
@@ -25,7 +25,7 @@ unfolding meant_by
 set p k rx e = rw e
 
 returns : tie.Need-returns
-unfolding low_byte_lem
+unfolding low_byte
 returns c =
     let e = c.before.before in
     c.low-byte.ensures ∙ sym (clear _ _ _ (sym e.before.is_set.ensures ∙ not-true _ e.if1.true))

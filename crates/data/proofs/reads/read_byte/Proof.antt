@@ -3,7 +3,7 @@ use borrow.Author.Rules.{rules}
 use mathlib.Core.Path.{ap, ◌∙◌}
 use Prim.Native.Nat.{ℕ}
 use lib.ListN.{get_or}
-use Rattle.rules.specs.Bits.{word_of_lem}
+use Rattle.rules.specs.Bits.{word_of}
 use Rattle.rules.specs.Packet.{get_bytes}
 use Rattle.rules.specs.Data.{value_of}
 use Rattle.data.specs.Behind.{first_goes, reads}
@@ -17,7 +17,7 @@ returns c =
     let s = a.before.before.before.before in
     let mem = s.args.memory.now in (
       λ pages state queues h o.
-          reads 1 pages s.args.words.now state queues mem o (first_goes h) a.advance.ensures _ (c.word.ensures ∙ ap (λ (i : ℕ). word_of_lem (get_or mem i 0) 0) h.lies),
+          reads 1 pages s.args.words.now state queues mem o (first_goes h) a.advance.ensures _ (c.word.ensures ∙ ap (λ (i : ℕ). word_of (get_or mem i 0) 0) h.lies),
       search rules,
     )
 

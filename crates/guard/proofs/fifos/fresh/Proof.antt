@@ -19,13 +19,13 @@ use Rattle.guard.specs.Pass.{passes, gathered, some_below, none_left, pass_here,
 use Rattle.guard.proofs.fifos.fresh.Statement.{statement}
 use Rattle.guard.proofs.fifos.fresh.Tie as tie
 
-abbrev invariant-loop : tie.invariant-loop
+abbrev invariant-loop : tie.invariant-loop-i
 invariant-loop sets slots count seen all₀ added₀ i₀ all added i =
     let ls = map pages_of sets in
     let l = take count slots in
     (i ≤ count) × (added ≤ 24 * i) × (passes ls seen l ≡ passes ls all (drop i l)) × (gathered seen l ≡ gathered all (drop i l)) × (sum l ≡ added + sum (drop i l))
 
-abbrev decreases-loop : tie.decreases-loop
+abbrev decreases-loop : tie.decreases-loop-i
 decreases-loop sets slots count seen all₀ added₀ i₀ all added i = count - i
 
 fits : (s : tie.Start invariant-loop decreases-loop) → s.args.count ≤ length s.args.slots.now
@@ -33,10 +33,10 @@ fits s = omega (arith, s.requires.1, s.requires.2)
 
 -- at an entry, with its set
 abbrev At : Type 0
-At = tie.After-has-pages invariant-loop decreases-loop
+At = tie.After-has_pages invariant-loop decreases-loop
 
 module _ (b : At) where
-  abbrev at : tie.At-loop invariant-loop decreases-loop
+  abbrev at : tie.At-loop-i invariant-loop decreases-loop
   at = b.before.before.before.before
 
   abbrev start : tie.Start invariant-loop decreases-loop
@@ -46,83 +46,83 @@ module _ (b : At) where
   ls = map pages_of start.args.sets.now
 
   abbrev x : ℕ
-  x = get_or start.args.slots.now at.loop.i 0
+  x = get_or start.args.slots.now at.loop-i.i 0
 
   abbrev l : List ℕ
   l = take start.args.count start.args.slots.now
 
   abbrev rest : List ℕ
-  rest = drop (at.loop.i + 1) l
+  rest = drop (at.loop-i.i + 1) l
 
-  inside : at.loop.i < start.args.count
-  inside = b.before.before.before.loop-test.taken
+  inside : at.loop-i.i < start.args.count
+  inside = b.loop-i-test.true
 
-  here : passes ls start.args.seen l ≡ some? (get_or ls x []) && not (bit x at.loop.all) && passes ls (bit_or at.loop.all (2 ^ x)) rest
-  here = at.loop.inv.2 ∙ pass_here start.args.slots.now start.args.count at.loop.i (fits start) inside ls at.loop.all
+  here : passes ls start.args.seen l ≡ some? (get_or ls x []) && not (bit x at.loop-i.all) && passes ls (bit_or at.loop-i.all (2 ^ x)) rest
+  here = at.loop-i.invariant.2 ∙ pass_here start.args.slots.now start.args.count at.loop-i.i (fits start) inside ls at.loop-i.all
 
   pages : b.has_pages.result ≡ some? (get_or ls x [])
-  pages = b.has_pages.ensures ∙ ap some? b.before.set-of.ensures
+  pages = b.has_pages.ensures ∙ ap some? b.set_of.ensures
 
   small : some? (get_or ls x []) ≡ true → x < 24
-  small e = omega (arith, some_below ls x e, lists_length start.args.sets.now, start.pre.0)
+  small e = omega (arith, some_below ls x e, lists_length start.args.sets.now, start.requires.0)
 
 -- an allocated packet
-has : (e : tie.Else1 invariant-loop decreases-loop) → some? (get_or (ls e.before) (x e.before) []) ≡ true
-has e = sym (pages e.before) ∙ not-false _ e.if1.false
+has : (e : tie.Else-not-has_pages invariant-loop decreases-loop) → some? (get_or (ls e.before) (x e.before) []) ≡ true
+has e = sym (pages e.before) ∙ e.if-not-has_pages.false
 
-returns : tie.Need-returns invariant-loop decreases-loop
+returns : tie.Need-returns-then-not-has_pages invariant-loop decreases-loop
 returns c =
     let b = c.before in
-    let none = sym (pages b) ∙ not-true _ c.if1.true in
+    let none = sym (pages b) ∙ c.if-not-has_pages.true in
     (sym (here b ∙ rw none), (λ t. absurd (true≢false (sym t)), λ t. absurd (true≢false (sym t))))
 
 has-requires : tie.Need-has-requires invariant-loop decreases-loop
 has-requires c κs = omega (arith, small c.before (has c))
 
-returns-2 : tie.Need-returns-2 invariant-loop decreases-loop
+returns-2 : tie.Need-returns-then-has invariant-loop decreases-loop
 returns-2 c =
     let e = c.before.before in
-    let seen = sym c.before.has.ensures ∙ c.if2.true in
+    let seen = sym c.has.ensures ∙ c.if-has.true in
     (sym (here e.before ∙ rw (has e, seen)), (λ t. absurd (true≢false (sym t)), λ t. absurd (true≢false (sym t))))
 
-with-seen-requires : tie.Need-with-seen-requires invariant-loop decreases-loop
-with-seen-requires c κs = let e = c.before.before in omega (arith, small e.before (has e))
+with-seen-requires : tie.Need-with_seen-all-requires invariant-loop decreases-loop
+with-seen-requires c κs = let e = c.before.before in omega (arith, small c.before.before.before (has e))
 
-cast-added : tie.Need-overflow-cast-added invariant-loop decreases-loop
-cast-added c = let e = c.before.before.before in omega (arith, small e.before (has e))
+cast-added : tie.Need-overflow_cast-added invariant-loop decreases-loop
+cast-added c = let e = c.before.before.before in omega (arith, small c.before.before.before.before (has e))
 
-add-added : tie.Need-overflow-add-added invariant-loop decreases-loop
-add-added c = let e = c.before.before.before in let b = e.before in omega (arith, (at b).loop.invariant.1, (start b).requires.2, inside b, small b (has e))
+add-added : tie.Need-overflow_add-added invariant-loop decreases-loop
+add-added c = let e = c.before.before.before in let b = c.before.before.before.before in omega (arith, (at b).loop-i.invariant.1, (start b).requires.2, inside b, small b (has e))
 
-loop-again : tie.Need-loop-preserved invariant-loop decreases-loop
+loop-again : tie.Need-loop-i-preserved invariant-loop decreases-loop
 loop-again c =
-    let t = c.before in
-    let e = t.before.before in
-    let b = e.before in
+    let t = c in
+    let e = c.before.before.before in
+    let b = c.before.before.before.before in
     let s = start b in
     let slots = s.args.slots.now in
-    let unseen = sym t.before.has.ensures ∙ t.if2.false in
-    let more = sym c.with-seen.ensures in (
+    let unseen = sym t.has.ensures ∙ t.if-has.false in
+    let more = sym c.with_seen-all.ensures in (
       search rules,
-      omega (arith, (at b).loop.invariant.1, small b (has e)),
+      omega (arith, (at b).loop-i.invariant.1, small b (has e)),
       here b ∙ rw (has e, unseen) (ap (λ (n : ℕ). passes (ls b) n (rest b)) more),
-      (at b).loop.invariant.3 ∙ gather_here slots s.args.count (at b).loop.i (fits s) (inside b) (at b).loop.all ∙ ap (λ (n : ℕ). gathered n (rest b)) more,
-      omega (arith, (at b).loop.invariant.4, added_here slots s.args.count (at b).loop.i (fits s) (inside b)),
+      (at b).loop-i.invariant.3 ∙ gather_here slots s.args.count (at b).loop-i.i (fits s) (inside b) (at b).loop-i.all ∙ ap (λ (n : ℕ). gathered n (rest b)) more,
+      omega (arith, (at b).loop-i.invariant.4, added_here slots s.args.count (at b).loop-i.i (fits s) (inside b)),
     )
 
-returns-3 : tie.Need-returns-3 invariant-loop decreases-loop
+returns-3 : tie.Need-returns invariant-loop decreases-loop
 unfolding passes gathered
 returns-3 c =
-    let a = c.before in
-    let s = a.before.before.before in
-    let v = a.loop.invariant in
-    let none = none_left s.args.slots.now s.args.count a.loop.i (fits s) c.loop-test.false in (
-      sym (v.2 ∙ ap (passes (map pages_of s.args.sets.now) a.loop.all) none),
-      (λ t. sym (v.3 ∙ ap (gathered a.loop.all) none), λ t. omega (arith, v.4, ap sum none ∙ sum_none)),
+    let a = c in
+    let s = c.before.before.before.before in
+    let v = a.loop-i.invariant in
+    let none = none_left s.args.slots.now s.args.count a.loop-i.i (fits s) c.loop-i-test.false in (
+      sym (v.2 ∙ ap (passes (map pages_of s.args.sets.now) a.loop-i.all) none),
+      (λ t. sym (v.3 ∙ ap (gathered a.loop-i.all) none), λ t. omega (arith, v.4, ap sum none ∙ sum_none)),
     )
 
-pub fresh-spec : {M : Type 1} → statement M
-fresh-spec =
+pub fresh_spec : {M : Type 1} → statement M
+fresh_spec =
     tie.close
     (tie.spec
     invariant-loop decreases-loop (λ c. (search rules, omega arith, refl, refl, omega arith)) (λ c. search rules) (λ c κs. search rules) (λ c κs. search rules) returns has-requires returns-2 with-seen-requires cast-added add-added (λ c. search rules) (λ c. search rules) loop-again returns-3)

@@ -11,5 +11,5 @@ use Rattle.guard.proofs.fifos.with_seen.Tie as tie
 returns : tie.Need-returns
 returns c = ap (bit_or c.args.seen) (shl_exact 1 c.args.x 32 (omega arith) (omega arith) ∙ one-mul _)
 
-pub with-seen-spec : {M : Type 1} → statement M
-with-seen-spec = tie.close (tie.spec (λ c. search rules) returns)
+pub with_seen_spec : {M : Type 1} → statement M
+with_seen_spec = tie.close (tie.spec (λ c. search rules) returns)

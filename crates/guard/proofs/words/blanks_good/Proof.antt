@@ -5,9 +5,9 @@ use Rattle.guard.proofs.words.blanks_good.Statement.{statement}
 use Rattle.guard.proofs.words.blanks_good.Tie as tie
 
 returns : tie.Need-returns
-returns c = none_decides (blank_none c.before.before.before.before.args.words.now)
+returns c = none_decides (blank_none c.args.words.now)
 
-pub blanks-good-spec : {M : Type 1} → statement M
-blanks-good-spec =
+pub blanks_good_spec : {M : Type 1} → statement M
+blanks_good_spec =
     tie.close
     (tie.spec (λ c. search rules) (λ c. search rules) (λ c. search rules) (λ c. search rules) returns)

@@ -23,12 +23,12 @@ one_of x l = go (bit 2 x) (bit 4 x) l
     go false true e = inr (inr (inl e))
     go true true e = inr (inr (inr e))
 
-returns : tie.Need-returns
+returns : tie.Need-returns-in-0
 unfolding bit flag
-returns c = always (by_key Latches (0 ∷ 4 ∷ 16 ∷ 20 ∷ []) c.before.args.x c.match.keys1 refl refl refl refl)
+returns c = always (by_key Latches (0 ∷ 4 ∷ 16 ∷ 20 ∷ []) c.args.x c.in-0.is refl refl refl refl)
 
-returns-2 : tie.Need-returns-2
-returns-2 c = never (λ l. c.match.rest.1 (one_of c.before.args.x l))
+returns-2 : tie.Need-returns-in_default
+returns-2 c = never (λ l. c.in_default.in_default-own.rest.1 (one_of c.args.x l))
 
-pub latches-good-spec : {M : Type 1} → statement M
-latches-good-spec = tie.close (tie.spec returns returns-2)
+pub latches_good_spec : {M : Type 1} → statement M
+latches_good_spec = tie.close (tie.spec returns returns-2)

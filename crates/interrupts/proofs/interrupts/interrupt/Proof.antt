@@ -1,6 +1,6 @@
 -- The mask stands above a byte that is 0.
 use native.Mathlib.Omega.{arith}
-use Rattle.rules.specs.Bits.{word_of_lem}
+use Rattle.rules.specs.Bits.{word_of}
 use borrow.Author.Rules.{rules}
 use Rattle.interrupts.proofs.interrupts.interrupt.Statement.{statement}
 use Rattle.interrupts.proofs.interrupts.interrupt.Tie as tie
@@ -11,7 +11,7 @@ add-result c =
     omega (arith, s.requires.0.fixed.mask_low, c.before.status.ensures.1, c.shared-slice-known2.given 22)
 
 returns : tie.Need-returns
-unfolding word_of_lem
+unfolding word_of
 returns c =
     let s = c.before.before.before in
     let m = s.requires.0.fixed.mask_low in

@@ -4,9 +4,9 @@ use mathlib.Core.Path.{ap, ap₂, ◌∙◌}
 use Prim.Native.Nat.{ℕ, ◌+◌, ◌-◌, ◌%◌, ◌≤◌}
 use lib.ListN.{length}
 use native.Mathlib.Omega.{arith}
-use Rattle.rules.specs.Bits.{word_of_lem}
+use Rattle.rules.specs.Bits.{word_of}
 use Rattle.sets.specs.Views.{pages_of}
-use Rattle.packet.proofs.Facts.{room_place, room_small, byte_at, word_of, place_next}
+use Rattle.packet.proofs.Facts.{room_place, room_small, byte_at, word_of_lem, place_next}
 use Rattle.packet.proofs.access.read_word.Statement.{statement}
 use Rattle.packet.proofs.access.read_word.Tie as tie
 
@@ -26,7 +26,7 @@ returns c =
     let a = s.args.at.0 in
     let pages = pages_of s.args.pages in
     let m = s.args.memory.now in
-    c.word.ensures ∙ ap₂ word_of_lem (byte_at a p.place_of-i.result pages m p.place_of-i.ensures.0) c.read_byte.ensures ∙ word_of a pages m
+    c.word.ensures ∙ ap₂ word_of (byte_at a p.place_of-i.result pages m p.place_of-i.ensures.0) c.read_byte.ensures ∙ word_of_lem a pages m
 
 returns-2 : tie.Need-returns
 returns-2 c =
@@ -38,9 +38,9 @@ returns-2 c =
     let pages = pages_of s.args.pages in
     let m = s.args.memory.now in
     c.word-2.ensures
-    ∙ ap₂ word_of_lem (byte_at a i pages m p.place_of-i.ensures.0)
+    ∙ ap₂ word_of (byte_at a i pages m p.place_of-i.ensures.0)
     (byte_at (a + 1) (i + 1) pages m (ap (λ (j : ℕ). j + 1) p.place_of-i.ensures.0 ∙ place_next a pages f.if-at-eq255.false))
-    ∙ word_of a pages m
+    ∙ word_of_lem a pages m
 
 pub read_word_spec : {M : Type 1} → statement M
 read_word_spec =

@@ -5,7 +5,7 @@ use mathlib.Core.List.{[], ◌∷◌}
 use Prim.Native.Nat.{ℕ}
 use native.Mathlib.Omega.{arith}
 use lib.Seq.{sets}
-use Rattle.rules.specs.Bits.{low_byte_lem, high_byte}
+use Rattle.rules.specs.Bits.{low_byte, high_byte}
 use Rattle.lists.specs.Bytes.{put_within}
 use Rattle.sets.specs.Views.{pages_of}
 use Rattle.packet.proofs.Facts.{room_place}
@@ -20,7 +20,7 @@ returns c =
     let q = c.before.before in
     let p = q.before in
     let s = p in
-    let bytes = low_byte_lem s.args.status ∷ high_byte s.args.status ∷ [] in
+    let bytes = low_byte s.args.status ∷ high_byte s.args.status ∷ [] in
     let m = s.args.memory.now in
     q.put_word.ensures
     ∙ ap (λ (i : ℕ). sets m i bytes) p.place_in.ensures.0

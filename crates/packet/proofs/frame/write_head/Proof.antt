@@ -6,7 +6,7 @@ use Prim.Native.Nat.{ℕ, suc, ◌+◌, ◌≤◌}
 use lib.ListN.{length}
 use native.Mathlib.Omega.{arith}
 use lib.Seq.{sets, length-sets}
-use Rattle.rules.specs.Bits.{low_byte_lem, high_byte}
+use Rattle.rules.specs.Bits.{low_byte, high_byte}
 use Rattle.lists.specs.Bytes.{put_within}
 use Rattle.sets.specs.Views.{pages_of}
 use Rattle.packet.proofs.Facts.{room_place}
@@ -22,7 +22,7 @@ again c κs =
     let q = c.before.before.before in
     let p = q.before.before in
     let x = p.args in
-    omega (arith, inside p, ap length q.put_word.ensures ∙ length-sets x.memory.now p.place_in-i.result (low_byte_lem x.status ∷ high_byte x.status ∷ []))
+    omega (arith, inside p, ap length q.put_word.ensures ∙ length-sets x.memory.now p.place_in-i.result (low_byte x.status ∷ high_byte x.status ∷ []))
 
 returns : tie.Need-returns
 returns c =
@@ -31,15 +31,15 @@ returns c =
     let p = q.before.before in
     let s = p in
     let x = s.args in
-    let first = low_byte_lem x.status ∷ high_byte x.status ∷ [] in
-    let second = low_byte_lem x.count ∷ high_byte x.count ∷ [] in
+    let first = low_byte x.status ∷ high_byte x.status ∷ [] in
+    let second = low_byte x.count ∷ high_byte x.count ∷ [] in
     let i = p.place_in-i.result in
     let m = x.memory.now in
     let e : i + 2 ≡ suc (suc i) = omega arith in
     r.put_word-2.ensures
     ∙ ap₂ (λ (l : List ℕ) (j : ℕ). sets l j second) q.put_word.ensures e
-    ∙ ap (λ (j : ℕ). sets m j (low_byte_lem x.status ∷ high_byte x.status ∷ second)) p.place_in-i.ensures.0
-    ∙ sym (put_within (pages_of x.pages) (low_byte_lem x.status ∷ high_byte x.status ∷ second) 0 m (omega arith))
+    ∙ ap (λ (j : ℕ). sets m j (low_byte x.status ∷ high_byte x.status ∷ second)) p.place_in-i.ensures.0
+    ∙ sym (put_within (pages_of x.pages) (low_byte x.status ∷ high_byte x.status ∷ second) 0 m (omega arith))
 
 pub write_head_spec : {M : Type 1} → statement M
 write_head_spec =

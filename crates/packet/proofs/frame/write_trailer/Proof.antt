@@ -6,7 +6,7 @@ use Prim.Native.Nat.{ℕ, ◌+◌, ◌-◌, ◌%◌, ◌≤◌}
 use lib.ListN.{length}
 use native.Mathlib.Omega.{arith}
 use lib.Seq.{sets}
-use Rattle.rules.specs.Bits.{low_byte_lem, high_byte}
+use Rattle.rules.specs.Bits.{low_byte, high_byte}
 use Rattle.rules.specs.Packet.{put_bytes}
 use Rattle.lists.specs.Bytes.{put_within, trailer_odd, trailer_even}
 use Rattle.sets.specs.Views.{pages_of}
@@ -25,7 +25,7 @@ returns c =
     rw (trailer_odd s.args.n c.if-n-eq1.true, p.place_in-i.ensures.0)
 
 returns-2 : tie.Need-returns
-unfolding low_byte_lem high_byte
+unfolding low_byte high_byte
 returns-2 c =
     let q = c.before.before in
     let f = q.before.before in

@@ -7,7 +7,7 @@ use Rattle.pages.proofs.pages.free_count.Tie as tie
 
 returns : tie.Need-returns
 unfolding high_byte
-returns c = omega (arith, c.high_byte.ensures, c.before.shared-slice-known2.given 4)
+returns c = omega (arith, c.high_byte.ensures, c.shared_slice_known-2-1.given 4)
 
-pub free-count-spec : {M : Type 1} → statement M
-free-count-spec = tie.close (tie.spec (λ c. search rules) (λ c κs. search rules) (λ c. search rules) returns)
+pub free_count_spec : {M : Type 1} → statement M
+free_count_spec = tie.close (tie.spec (λ c. search rules) (λ c κs. search rules) (λ c. search rules) returns)

@@ -5,7 +5,7 @@ use Prim.Native.Nat.{ℕ, ◌+◌, ◌≤◌, ◌<◌}
 use native.Mathlib.Omega.{arith}
 use borrow.Author.Rules.{rules}
 use lib.ListN.{length, get_or, set}
-use Rattle.rules.specs.Bits.{word_of_lem}
+use Rattle.rules.specs.Bits.{word_of}
 use Rattle.rules.specs.Chip.{paged, free_for}
 use Rattle.rules.specs.WellFormed.{GoodPages}
 use Rattle.wellformed.specs.Parts.{part_few}
@@ -30,28 +30,28 @@ few s k number good =
     omega (arith, free_set paged n ls k [] number good after, free_total paged n (set ls k []) after)
 
 more-requires : tie.Need-more-requires
-unfolding word_of_lem
+unfolding word_of
 more-requires c κs =
-    let n = c.before in
-    let s = n.before.before.before.before.before in
+    let n = c in
+    let s = c in
     let k = s.args.packet.0 in
     let p = s.requires in
-    omega (arith, n.page-count.ensures, ap length (list_at s.args.sets.now k), p.1.free, few s.args.sets.now k p.3 (lists s.args.sets.now p.2), part_few p.1.part)
+    omega (arith, n.page_count-pages.ensures, ap length (list_at s.args.sets.now k), p.1.free, few s.args.sets.now k p.3 (lists s.args.sets.now p.2), part_few p.1.part)
 
 returns : tie.Need-returns
 returns c =
-    let r = c.before.before.released.ensures in
-    let m = c.before.before.before.before in
-    let n = m.before.before in
-    let s = n.before.before.before.before.before in
+    let r = c.released.ensures in
+    let m = c in
+    let n = c in
+    let s = c in
     let k = s.args.packet.0 in
     let p = s.requires in
     let good = lists s.args.sets.now p.2 in
-    repaged (λ ls. set ls k []) k [] _ _ _ _ _ (store_mir _ s.args.words.now p.0) p.3 good (back_lists (length s.args.sets.now) _ k p.3 paged good) p.1 (λ i. omega (arith, c.slice-known5.given i)) r refl
-    (omega (arith, m.more.ensures, n.page-count.ensures, ap length (list_at s.args.sets.now k)))
+    repaged (λ ls. set ls k []) k [] _ _ _ _ _ (store_mir _ s.args.words.now p.0) p.3 good (back_lists (length s.args.sets.now) _ k p.3 paged good) p.1 (λ i. omega (arith, c.slice_known-5-1.given i)) r refl
+    (omega (arith, m.more.ensures, n.page_count-pages.ensures, ap length (list_at s.args.sets.now k)))
 
-pub make-free-spec : {M : Type 1} → statement M
-make-free-spec =
+pub make_free_spec : {M : Type 1} → statement M
+make_free_spec =
     tie.close
     (tie.spec
     (λ c. search rules)

@@ -21,25 +21,25 @@ use Rattle.pages.proofs.requests.allocate.Tie as tie
 may : (s : tie.Start) → let ls = map pages_of s.args.sets.now in Grantable (first_empty ls) s.args.need ls
 may s = grantable (map pages_of s.args.sets.now) s.args.need (subst (λ (n : ℕ). GoodPages n (map pages_of s.args.sets.now)) (sym (lists_length s.args.sets.now)) s.requires.2) s.requires.3 s.requires.4 s.requires.5
 
-cast-number : tie.Need-overflow-cast-number
+cast-number : tie.Need-overflow_cast-number
 cast-number c =
-    let s = c.before.before.before.before in
-    record { fits = omega (arith, (may s).number, lists_length s.args.sets.now, part_few s.requires.1.part, c.lowest-unallocated.ensures) }
+    let s = c.before.before.before in
+    record { fits = omega (arith, (may s).number, lists_length s.args.sets.now, part_few s.requires.1.part, c.lowest_unallocated-number.ensures) }
 
 grant-requires : tie.Need-grant-requires
 grant-requires c κs =
-    let s = c.before.before.before.before.before.before in
-    (s.requires.0, s.requires.1, rw c.before.before.lowest-unallocated.ensures (may s))
+    let s = c.before.before.before.before.before in
+    (s.requires.0, s.requires.1, rw c.lowest_unallocated-number.ensures (may s))
 
 returns : tie.Need-returns
 returns c =
-    let s = c.before.before.before.before.before.before.before.before.before.before.before.before.before.before.before in
+    let s = c in
     let w = s.args.words.now in
     let ss = s.args.sets.now in
     let ls = map pages_of ss in
-    alters_as (alters_sets (repages_alters c.before.before.before.before.before.before.before.before.grant.ensures.1) c.before.before.give-result.ensures)
+    alters_as (alters_sets (repages_alters c.grant.ensures.1) c.give_result.ensures)
     (λ q mem. ap (λ (j : ℕ). in_registers (λ r. set_waiting 0 (set_result j r)) (in_pool (set_pages (set ls j (take s.args.need (free_for paged ls)))) (view w ss q mem)))
-    c.before.before.before.before.before.before.before.before.before.before.before.lowest-unallocated.ensures)
+    c.lowest_unallocated-number.ensures)
 
 pub allocate_spec : {M : Type 1} → statement M
 allocate_spec =

@@ -15,9 +15,9 @@ use Rattle.pages.proofs.requests.give_back.Tie as tie
 
 settle-requires : tie.Need-settle-requires
 settle-requires c κs =
-    let s = c.before.before.before.before.before.before.before.before.before.before.before in
+    let s = c in
     let k = s.args.packet.0 in
-    let free = c.before.before.before.before.before.before.make-free.ensures in
+    let free = c.make_free.ensures in
     let ss = s.args.sets.now in
     let n = length ss in
     let good = back_good n _ k (omega (arith, lists_length ss, s.requires.3)) s.requires.2 in
@@ -25,8 +25,8 @@ settle-requires c κs =
     (free.kept, free.sets, rw (same, free.pages) good, omega (arith, s.requires.4, ap (λ (r : Registers). r.numbers.waiting) free.regs))
 
 returns : tie.Need-returns
-returns c = alters_both (repages_alters c.before.before.before.before.before.before.before.before.before.before.before.make-free.ensures) c.before.before.before.before.settle.ensures
+returns c = alters_both (repages_alters c.make_free.ensures) c.settle.ensures
 
-pub give-back-spec : {M : Type 1} → statement M
-give-back-spec =
+pub give_back_spec : {M : Type 1} → statement M
+give_back_spec =
     tie.close (tie.spec (λ c κs. search rules) settle-requires (λ c. search rules) (λ c. search rules) returns)

@@ -18,16 +18,16 @@ use Rattle.pages.proofs.requests.settle.Tie as tie
 counted : (s : tie.Start) → let ls = map pages_of s.args.sets.now in word s.args.words.now 4 / 256 ≡ length (free_for paged ls)
 counted s = free_told s.args.words.now s.args.sets.now s.requires.1
 
-returns : tie.Need-returns
+returns : tie.Need-returns-then-need-eq0
 returns c =
-    let s = c.before.before.before.before in
-    record { chip = λ q mem. sym (settle_none (view s.args.words.now s.args.sets.now q mem) c.if1.true); still = refl; kept = s.requires.0; sets = s.requires.1 }
+    let s = c in
+    record { chip = λ q mem. sym (settle_none (view s.args.words.now s.args.sets.now q mem) c.if-need-eq0.true); still = refl; kept = s.requires.0; sets = s.requires.1 }
 
-returns-2 : tie.Need-returns-2
+returns-2 : tie.Need-returns-then-free_count-need
 returns-2 c =
-    let s = c.before.before.before.before.before.before.before in
+    let s = c.before.before.before.before.before.before in
     record {
-      chip = λ q mem. sym (settle_later (view s.args.words.now s.args.sets.now q mem) (omega (arith, c.if2.true, c.before.free-count.ensures, counted s)));
+      chip = λ q mem. sym (settle_later (view s.args.words.now s.args.sets.now q mem) (omega (arith, c.if-free_count-need.true, c.free_count.ensures, counted s)));
       still = refl;
       kept = s.requires.0;
       sets = s.requires.1;
@@ -35,19 +35,19 @@ returns-2 c =
 
 allocate-requires : tie.Need-allocate-requires
 allocate-requires c κs =
-    let s = c.before.before.before.before.before.before.before.before.before in
+    let s = c in
     let told = free_told s.args.words.now s.args.sets.now s.requires.1 in
-    (s.requires.0, s.requires.1, s.requires.2, omega (arith, c.before.before.before.before.before.if1.false), s.requires.3, omega (arith, c.before.before.if2.false, c.before.before.before.free-count.ensures, told))
+    (s.requires.0, s.requires.1, s.requires.2, omega (arith, c.if-need-eq0.false), s.requires.3, omega (arith, c.if-free_count-need.false, c.free_count.ensures, told))
 
-returns-3 : tie.Need-returns-3
+returns-3 : tie.Need-returns
 returns-3 c =
-    let s = c.before.before.before.before.before.before.before.before.before.before.before.before.before.before in
-    alters_as c.before.before.before.before.allocate.ensures
-    (λ q mem. sym (settle_now (view s.args.words.now s.args.sets.now q mem) (omega (arith, c.before.before.before.before.before.before.before.before.before.before.if1.false))
-    (omega (arith, c.before.before.before.before.before.before.before.if2.false, c.before.before.before.before.before.before.before.before.free-count.ensures, counted s))))
+    let s = c.before.before.before.before.before.before.before.before.before.before.before.before.before in
+    alters_as c.allocate.ensures
+    (λ q mem. sym (settle_now (view s.args.words.now s.args.sets.now q mem) (omega (arith, c.if-need-eq0.false))
+    (omega (arith, c.if-free_count-need.false, c.free_count.ensures, counted s))))
 
-pub settle-spec : {M : Type 1} → statement M
-settle-spec =
+pub settle_spec : {M : Type 1} → statement M
+settle_spec =
     tie.close
     (tie.spec
     (λ c. search rules)

@@ -5,8 +5,8 @@ use Rattle.state.specs.Stores.{store_none}
 use Rattle.pool.proofs.figures.store_none.Statement.{statement}
 use Rattle.pool.proofs.figures.store_none.Tie as tie
 
-pub store-none-spec : {M : Type 1} → statement M
-store-none-spec =
+pub store_none_spec : {M : Type 1} → statement M
+store_none_spec =
     tie.close
     (tie.spec
     (λ c. search rules)
@@ -14,9 +14,9 @@ store-none-spec =
     (λ c. search rules)
     (λ c κs. search rules)
     (λ c. search rules)
-    (λ c. simp length-set (omega (arith, c.before.before.requires.whole)))
-    (λ c. simp length-set (omega (arith, c.before.before.requires.whole)))
-    (λ c. simp length-set (omega (arith, c.before.before.requires.whole)))
-    (λ c. simp length-set (omega (arith, c.before.before.requires.whole)))
+    (λ c. simp length-set (omega (arith, c.requires.whole)))
+    (λ c. simp length-set (omega (arith, c.requires.whole)))
+    (λ c. simp length-set (omega (arith, c.requires.whole)))
+    (λ c. simp length-set (omega (arith, c.requires.whole)))
     (λ c. search rules)
-    (λ c. store_none _ _ c.word.ensures c.before.before.args.words.now c.before.before.requires))
+    (λ c. store_none _ _ c.word.ensures c.args.words.now c.requires))

@@ -5,8 +5,8 @@ use Rattle.pool.proofs.figures.store_tx.Tie as tie
 
 returns : tie.Need-returns
 returns c =
-    let s = c.before.before.before in
-    rw (← c.before.low_half_lem.ensures, ← c.high_half_lem.ensures) (store_tx _ _ _ s.args.words.now s.requires)
+    let s = c in
+    rw (← c.low_half.ensures, ← c.high_half.ensures) (store_tx _ _ _ s.args.words.now s.requires)
 
-pub store-tx-spec : {M : Type 1} → statement M
-store-tx-spec = tie.close (tie.spec (λ c. search rules) (λ c κs. search rules) (λ c. search rules) (λ c κs. search rules) (λ c. search rules) (λ c. search rules) returns)
+pub store_tx_spec : {M : Type 1} → statement M
+store_tx_spec = tie.close (tie.spec (λ c. search rules) (λ c κs. search rules) (λ c. search rules) (λ c κs. search rules) (λ c. search rules) (λ c. search rules) returns)

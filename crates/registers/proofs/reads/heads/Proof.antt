@@ -1,12 +1,12 @@
 -- Both heads.
 use mathlib.Core.Path.{ap₂, ◌∙◌}
-use Rattle.rules.specs.Bits.{word_of_lem}
+use Rattle.rules.specs.Bits.{word_of}
 use borrow.Author.Rules.{rules}
 use Rattle.registers.proofs.reads.heads.Statement.{statement}
 use Rattle.registers.proofs.reads.heads.Tie as tie
 
 returns : tie.Need-returns
-returns c = c.word.ensures ∙ ap₂ word_of_lem c.before.before.completion-shown.ensures c.before.rx-shown.ensures
+returns c = c.word.ensures ∙ ap₂ word_of c.before.before.completion-shown.ensures c.before.rx-shown.ensures
 
 pub heads-spec : {M : Type 1} → statement M
 heads-spec = tie.close (tie.spec (λ c κs. search rules) (λ c κs. search rules) (λ c κs. search rules) returns)

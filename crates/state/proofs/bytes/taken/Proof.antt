@@ -1,7 +1,7 @@
 -- By the part.
 use mathlib.Core.Path.{refl}
 use native.Mathlib.Omega.{arith}
-use Rattle.rules.specs.Bits.{low_byte_lem, high_byte}
+use Rattle.rules.specs.Bits.{low_byte, high_byte}
 use Rattle.rules.specs.Registers.{taken, lanes_at}
 use Rattle.state.proofs.Parts.{high_part, low_part}
 use borrow.Author.Rules.{rules}
@@ -13,7 +13,7 @@ unfolding taken high_byte
 returns c = rw (c.in-Byte.is, high_part _ c.if-offset-eq1.true) (omega arith)
 
 returns-2 : tie.Need-returns-else-offset-eq1
-unfolding taken low_byte_lem
+unfolding taken low_byte
 returns-2 c = rw (c.in-Byte.is, low_part _ c.if-offset-eq1.false) refl
 
 returns-3 : tie.Need-returns-in-Word

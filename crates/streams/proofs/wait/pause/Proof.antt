@@ -25,7 +25,7 @@ use types.SemTy.{Body}
 use types.Tokens.{lft_new, lft_end, lent_back}
 use sound.WpLaws.{FmC, fm_of, WpFn-mono}
 use denote.RattleType.{RattleType}
-use denote.Memory.{mem, cell_at, part_at, part_of_lem}
+use denote.Memory.{mem, cell_at, part_at, part_of}
 use denote.Laws.{Is, shows}
 use denote.Plain.{Nothing-Makes}
 use denote.Signed.{sint_Lawful}
@@ -82,13 +82,13 @@ module _ {M : Type 1} {𝓤 : Ura M} (𝓛 : Logic 𝓤) where
 
   -- a local that holds the struct, as what is lent of it, and what comes back as room
   lies : (n l : ℕ) → n < 2 ^ 63 → ent 𝓤 (H.at full_share T'.mir l 0 (mach n)) (sem 𝓛 ((mem R).own_at (span n) l 0))
-  unfolding part_of_lem
+  unfolding part_of
   lies n l fits =
       qed 𝓛 (‵ (fat full_share T'.mir l 0 (mach n)) ∷ []) ∵ use1 𝓛 (‵ (cell_at full_share R.mir (mach n ∷ []) l 0)) (𝓛.laws.at_raw full_share T'.mir l 0 (mach n)) $
       owned ! R (Is R) (LL.makes T.the_type T'.the_plain 𝓛) (span n) _ (made n fits) $ move ! (1 ∷ 0 ∷ []) $ fjoin ! $ fpack ! (List Val) (λ vs. fsep (cell_at full_share R.mir vs l 0) (R.own (span n) vs)) (mach n ∷ []) $ done !
 
   room : (h : timespec) (l : ℕ) → ent 𝓤 (sem 𝓛 ((mem R).own_at h l 0)) (H.room T'.mir l 0)
-  unfolding part_of_lem
+  unfolding part_of
   room h l =
       qed 𝓛 (‵ ((mem R).own_at h l 0) ∷ []) ∵ fpick ! (λ vs. fsplit ! $ spelt ! R (Is R) (shows 𝓛 R) (LL.vals T.the_type T'.the_laws) (LL.tells T.the_type T'.the_laws) full_share h vs l 0 $
       use1 𝓛 (‵ (fat full_share T'.mir l 0 (LL.val T.the_type T'.the_laws h))) (𝓛.laws.raw_at full_share T'.mir l 0 (LL.val T.the_type T'.the_laws h)) $ forget ! 0 refl $ keep ! (0 ∷ []) $ done !)

@@ -7,9 +7,9 @@ use Rattle.strip_bytes.proofs.access.read_byte.Tie as tie
 
 returns : tie.Need-returns
 returns c =
-    let p = c.before in
-    let s = p.before.before in
-    strip_byte s.args.packet.0 s.args.at.0 p.place_of.result s.args.memory.now (omega (arith, s.requires.within)) p.place_of.ensures
+    let p = c in
+    let s = c in
+    strip_byte s.args.packet.0 s.args.at.0 p.place_of-i.result s.args.memory.now (omega (arith, s.requires.within)) p.place_of-i.ensures
 
-pub read-byte-spec : {M : Type 1} → statement M
-read-byte-spec = tie.close (tie.spec (λ c κs. search rules) (λ c. search rules) returns)
+pub read_byte_spec : {M : Type 1} → statement M
+read_byte_spec = tie.close (tie.spec (λ c κs. search rules) (λ c. search rules) returns)

@@ -12,20 +12,20 @@ use Rattle.strip_bytes.proofs.frame.copy_out.Tie as tie
 
 returns : tie.Need-returns
 returns c =
-    let f = c.before.before in
-    let p = f.before.before.before in
-    let s = p.before.before.before in
+    let f = c in
+    let p = c in
+    let s = c in
     let x = s.args in
     let m = x.memory.now in
-    let i = p.place_of.result in
+    let i = p.place_of-start.result in
     let e : i + x.len - i ≡ x.len = omega arith in
-    f.fill-part.ensures
+    f.fill_part.ensures
     ∙ ap (λ (l : List ℕ). over l x.out.now)
-    (ap₂ (λ (n j : ℕ). take n (drop j m)) e p.place_of.ensures
+    (ap₂ (λ (n j : ℕ). take n (drop j m)) e p.place_of-start.ensures
     ∙ sym (strip_get x.packet.0 8 x.len 4 m (omega (arith, s.requires.1.within)) (omega (arith, s.requires.1.there, s.requires.1.within))))
 
-pub copy-out-spec : {M : Type 1} → statement M
-copy-out-spec =
+pub copy_out_spec : {M : Type 1} → statement M
+copy_out_spec =
     tie.close
     (tie.spec
     (λ c κs. search rules)

@@ -11,32 +11,32 @@ use Rattle.strip_bytes.specs.Strip.{strip_put}
 use Rattle.strip_bytes.proofs.frame.store_data.Statement.{statement}
 use Rattle.strip_bytes.proofs.frame.store_data.Tie as tie
 
-slice-aggregate-fill-part : tie.Need-slice-aggregate-fill-part
+slice-aggregate-fill-part : tie.Need-slice_bounds-fill_part-end-2
 slice-aggregate-fill-part c =
-    let s = c.before.before.before.before.before in
+    let s = c in
     sym (length-take-le s.args.n s.args.frame.now s.requires.0)
 
-fill-part-requires : tie.Need-fill-part-requires
+fill-part-requires : tie.Need-fill_part-requires
 fill-part-requires c κs = simp (length-take, length-drop) (search rules)
 
 returns : tie.Need-returns
 returns c =
-    let f = c.before.before in
-    let p = f.before.before.before in
-    let s = p.before.before.before in
+    let f = c in
+    let p = c in
+    let s = c in
     let x = s.args in
     let m = x.memory.now in
     let bytes = take x.n x.frame.now in
-    let i = p.place_of.result in
+    let i = p.place_of-start.result in
     let k = i + x.n - i in
     let e : length bytes ≡ x.n = length-take-le x.n x.frame.now s.requires.0 in
-    ap (λ (y : List ℕ). take i m ++ (y ++ drop k (drop i m))) f.fill-part.ensures
-    ∙ part_over m i k bytes (omega (arith, e)) (omega (arith, s.requires.1.there, s.requires.1.within, p.place_of.ensures))
-    ∙ ap (λ (j : ℕ). sets m j bytes) p.place_of.ensures
+    ap (λ (y : List ℕ). take i m ++ (y ++ drop k (drop i m))) f.fill_part.ensures
+    ∙ part_over m i k bytes (omega (arith, e)) (omega (arith, s.requires.1.there, s.requires.1.within, p.place_of-start.ensures))
+    ∙ ap (λ (j : ℕ). sets m j bytes) p.place_of-start.ensures
     ∙ sym (strip_put x.packet.0 8 bytes 4 m (omega (arith, e, s.requires.1.within)))
 
-pub store-data-spec : {M : Type 1} → statement M
-store-data-spec =
+pub store_data_spec : {M : Type 1} → statement M
+store_data_spec =
     tie.close
     (tie.spec
     (λ c κs. search rules)

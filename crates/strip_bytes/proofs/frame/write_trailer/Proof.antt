@@ -1,46 +1,46 @@
 -- By whether n is odd.
 use borrow.Author.Rules.{rules}
 use native.Mathlib.Omega.{arith}
-use Rattle.rules.specs.Bits.{low_byte_lem, high_byte}
+use Rattle.rules.specs.Bits.{low_byte, high_byte}
 use Rattle.lists.specs.Bytes.{trailer_odd, trailer_even, count_even, count_least}
 use Rattle.strip_bytes.proofs.Facts.{strip_less}
 use Rattle.strip_bytes.proofs.frame.write_trailer.Statement.{statement}
 use Rattle.strip_bytes.proofs.frame.write_trailer.Tie as tie
 
-add-t5 : tie.Need-overflow-add-t5
-add-t5 c = omega (arith, count_least c.before.args.n, c.before.requires.within)
+add-t5 : tie.Need-overflow_add-at
+add-t5 c = omega (arith, count_least c.args.n, c.requires.within)
 
-cast-t6 : tie.Need-overflow-cast-t6
-cast-t6 c = omega (arith, count_least c.before.args.n, c.before.requires.within)
+cast-t6 : tie.Need-overflow_cast-at
+cast-t6 c = omega (arith, count_least c.args.n, c.requires.within)
 
-write-byte-requires : tie.Need-write-byte-requires
+write-byte-requires : tie.Need-write_byte-requires
 write-byte-requires c κs =
-    let s = c.before.before.before in
+    let s = c in
     strip_less s.requires _ (omega (arith, count_least s.args.n))
 
-returns : tie.Need-returns
-unfolding low_byte_lem
+returns : tie.Need-returns-then-n-eq1
+unfolding low_byte
 returns c =
-    let w = c.before.before in
-    let i = w.before.before in
-    let s = i.before.before in
-    rw (trailer_odd s.args.n i.if1.true) w.write_byte.ensures
+    let w = c in
+    let i = c in
+    let s = c in
+    rw (trailer_odd s.args.n i.if-n-eq1.true) w.write_byte.ensures
 
-write-word-requires : tie.Need-write-word-requires
+write-word-requires : tie.Need-write_word-requires
 write-word-requires c κs =
-    let s = c.before.before.before in
-    strip_less s.requires _ (omega (arith, count_even s.args.n c.before.if1.false))
+    let s = c in
+    strip_less s.requires _ (omega (arith, count_even s.args.n c.if-n-eq1.false))
 
-returns-2 : tie.Need-returns-2
-unfolding low_byte_lem high_byte
+returns-2 : tie.Need-returns
+unfolding low_byte high_byte
 returns-2 c =
-    let w = c.before.before in
-    let i = w.before.before in
-    let s = i.before.before in
-    rw (trailer_even s.args.n i.if1.false) w.write_word.ensures
+    let w = c in
+    let i = c in
+    let s = c in
+    rw (trailer_even s.args.n i.if-n-eq1.false) w.write_word.ensures
 
-pub write-trailer-spec : {M : Type 1} → statement M
-write-trailer-spec =
+pub write_trailer_spec : {M : Type 1} → statement M
+write_trailer_spec =
     tie.close
     (tie.spec
     add-t5

@@ -6,7 +6,7 @@ use native.Mathlib.Omega.{arith}
 use borrow.Author.Rules.{rules}
 use lib.ListN.{length, get_or, take, set}
 use lib.Seq.{length-take-le}
-use Rattle.rules.specs.Bits.{word_of_lem}
+use Rattle.rules.specs.Bits.{word_of}
 use Rattle.rules.specs.Lists.{total, up_from, first_empty}
 use Rattle.rules.specs.Chip.{strips, free_for}
 use Rattle.lists.specs.UpFrom.{length_up, take_up}
@@ -56,7 +56,7 @@ module _ (s : tie.Start) where
       ∙ ap (set ls k) (ap (λ (j : ℕ). up_from (8 * j) need) s.pre.3 ∙ sym (take_up (8 * first_empty ls) need (length ls - total ls) (omega (arith, s.pre.6, length_up (8 * first_empty ls) (length ls - total ls)))))
 
 fewer-requires : tie.Need-fewer-requires
-unfolding word_of_lem
+unfolding word_of
 fewer-requires c κs =
     let p = c.before.before.before.requires in
     omega (arith, p.1.free, p.6)
@@ -65,7 +65,7 @@ slice-write-counts : tie.Need-slice-write-counts
 slice-write-counts c = number c.before.before.before.before.before
 
 returns : tie.Need-returns
-unfolding word_of_lem
+unfolding word_of
 returns c =
     let f = c.before in
     let s = f.before.before.before.before in

@@ -5,7 +5,7 @@ use Prim.Native.Nat.{ℕ, ◌+◌, ◌≤◌, ◌<◌}
 use native.Mathlib.Omega.{arith}
 use borrow.Author.Rules.{rules}
 use lib.ListN.{length, get_or, set}
-use Rattle.rules.specs.Bits.{word_of_lem}
+use Rattle.rules.specs.Bits.{word_of}
 use Rattle.rules.specs.Lists.{up_from}
 use Rattle.rules.specs.Chip.{strips, free_for}
 use Rattle.wellformed.specs.Parts.{part_few}
@@ -24,7 +24,7 @@ few n ls k number good =
     omega (arith, free_set strips n ls k [] number good after, free_total strips n (set ls k []) after)
 
 more-requires : tie.Need-more-requires
-unfolding word_of_lem
+unfolding word_of
 more-requires c κs =
     let s = c.before.before.before.before.before in
     let p = s.requires in
