@@ -13,11 +13,11 @@ use Rattle.commands.proofs.do_reset_tx.Tie as tie
 returns : tie.Need-returns
 unfolding perform
 returns c = λ l s pages mem.
-    let a = c.before.before.before.before.before.before.before.before.before.before.before.before.before.before.before.before.args in
-    let both = rejoins_both c.before.before.before.before.before.before.before.before.before.before.before.empty-tx.ensures c.before.before.before.before.empty-completion.ensures in
+    let a = c.args in
+    let both = rejoins_both c.empty_tx.ensures c.empty_completion.ensures in
     performs rules.reset_tx a.words.now s a.queues.now mem (in_pool (λ p. set_completion [] (set_tx [] p))) refl (rejoins_chip both l s mem) (rejoins_sound both pages)
 
-pub do-reset-tx-spec : {M : Type 1} → statement M
-do-reset-tx-spec =
+pub do_reset_tx_spec : {M : Type 1} → statement M
+do_reset_tx_spec =
     tie.close
     (tie.spec (λ c κs. search rules) (λ c κs. search rules) (λ c. search rules) (λ c. search rules) returns)

@@ -14,50 +14,50 @@ use Rattle.data.specs.Gates.{room, stopped, passed}
 use Rattle.data.proofs.write_data.Statement.{statement}
 use Rattle.data.proofs.write_data.Tie as tie
 
-abbrev begin : tie.After-gate-of → tie.Start
+abbrev begin : tie.After-gate_of-gate → tie.Start
 begin g = g.before.before.before.before.before.before
 
 -- what the gate says, once it is told
-guards : (g : tie.After-gate-of) {x : Gate} → g.gate-of.result ≡ x → let a = (begin g).args in
+guards : (g : tie.After-gate_of-gate) {x : Gate} → g.gate_of-gate.result ≡ x → let a = (begin g).args in
     Guards false (word a.words.now 19) (pages_meant a.words.now a.sets.now a.queues.now) x
-guards g e = let a = (begin g).args in subst (Guards false (word a.words.now 19) (pages_meant a.words.now a.sets.now a.queues.now)) e g.gate-of.ensures
+guards g e = let a = (begin g).args in subst (Guards false (word a.words.now 19) (pages_meant a.words.now a.sets.now a.queues.now)) e g.gate_of-gate.ensures
 
 some_bytes : (wide : Bool) (v : ℕ) → 0 < length (bytes_for wide v)
 some_bytes true v = omega arith
 some_bytes false v = omega arith
 
-fits : (g : tie.After-gate-of) {i rest : ℕ} → g.gate-of.result ≡ Open i rest → let a = (begin g).args in Room a.words.now a.memory.now i rest
-fits g e = let s = begin g in room s.pre.0 s.args.memory.now s.pre.1 (guards g e).0
+fits : (g : tie.After-gate_of-gate) {i rest : ℕ} → g.gate_of-gate.result ≡ Open i rest → let a = (begin g).args in Room a.words.now a.memory.now i rest
+fits g e = let s = begin g in room s.requires.0 s.args.memory.now s.requires.1 (guards g e).0
 
-returns : tie.Need-returns
+returns : tie.Need-returns-in-Refused
 unfolding write_data
 returns c =
     let g = c.before.before.before in
     let s = begin g in
-    stopped s.pre.0 s.args.memory.now false _ _ _ (guards g c.before.gate.given.1) (some_bytes s.args.wide s.args.value)
+    stopped s.requires.0 s.args.memory.now false _ _ _ (guards g c.gate.given.1) (some_bytes s.args.wide s.args.value)
 
 -- the width is told
-returns-2 : tie.Need-returns-2
+returns-2 : tie.Need-returns-then-wide
 unfolding write_data
 returns-2 c =
-    let r = c.before.before.before.before in
-    let e = r.before.before.before in
-    let t = e.before.before in
-    let g = t.before.before in
+    let r = c in
+    let e = c in
+    let t = c in
+    let g = c.before.before.before.before.before.before.before.before.before.before.before in
     let s = begin g in
-    let h = guards g t.gate2.given.1 in
-    rw e.if1.true (passed s.pre.0 s.args.memory.now false 2 _ h (r.write_word.ensures.0 _ _ _ h.0 s.pre.0.sound))
+    let h = guards g t.gate-in-Open-1.given.1 in
+    rw e.if-wide.true (passed s.requires.0 s.args.memory.now false 2 _ h (r.write_word.ensures.0 _ _ _ h.0 s.requires.0.sound))
 
-returns-3 : tie.Need-returns-3
+returns-3 : tie.Need-returns-else-wide
 unfolding write_data
 returns-3 c =
-    let r = c.before.before.before.before in
-    let e = r.before.before.before in
-    let t = e.before.before in
-    let g = t.before.before in
+    let r = c in
+    let e = c in
+    let t = c in
+    let g = c.before.before.before.before.before.before.before.before.before.before.before in
     let s = begin g in
-    let h = guards g t.gate2.given.1 in
-    rw e.if1.false (passed s.pre.0 s.args.memory.now false 1 _ h (r.write_byte.ensures.0 _ _ _ h.0 s.pre.0.sound))
+    let h = guards g t.gate-in-Open-1.given.1 in
+    rw e.if-wide.false (passed s.requires.0 s.args.memory.now false 1 _ h (r.write_byte.ensures.0 _ _ _ h.0 s.requires.0.sound))
 
-pub write-data-spec : {M : Type 1} → statement M
-write-data-spec = tie.close (tie.spec (λ c κs. search rules) (λ c. search rules) (λ c. search rules) (λ c κs. let t = c.before.before.before.before in fits t.before.before t.gate2.given.1) (λ c κs. let t = c.before.before.before.before in fits t.before.before t.gate2.given.1) (λ c. search rules) returns (λ c. search rules) (λ c. search rules) returns-2 (λ c. search rules) (λ c. search rules) returns-3)
+pub write_data_spec : {M : Type 1} → statement M
+write_data_spec = tie.close (tie.spec (λ c κs. search rules) (λ c. search rules) (λ c. search rules) (λ c κs. let t = c.before.before.before.before in fits t.before.before t.gate-in-Open-1.given.1) (λ c κs. let t = c.before.before.before.before in fits t.before.before t.gate-in-Open-1.given.1) (λ c. search rules) returns (λ c. search rules) (λ c. search rules) returns-2 (λ c. search rules) (λ c. search rules) returns-3)

@@ -66,7 +66,7 @@ audit-requires : tie.Need-audit-pages-requires
 audit-requires c κs = ((s (one c).before.before).requires.1, part_few (part (one c)))
 
 returns-4 : tie.Need-returns-then-not-pages
-returns-4 c = let a = c in refutes a.audit-pages.ensures.0 (λ h. (asked (one c.before.before.before).before.before h).pages) (c.if-not-pages.true)
+returns-4 c = let a = c in refutes a.audit-pages.ensures.0 (λ h. (asked (one c.before.before.before).before.before h).pages) (not-true _ c.if-not-pages.true)
 
 -- The pages are good, and so many are free.
 module _ (e : tie.Else-not-pages) where
@@ -80,7 +80,7 @@ module _ (e : tie.Else-not-pages) where
   free = length (free_below (size n) (map pages_of (p n)))
 
   good : a.audit-pages.result.0 ≡ true
-  good = e.if-not-pages.false
+  good = not-false _ e.if-not-pages.false
 
   counted : a.audit-pages.result.1 ≡ free
   counted = a.audit-pages.ensures.1 ∙ ap (λ (b : Bool). cond b free 0) good
@@ -94,7 +94,7 @@ module _ (e : tie.Else-not-pages) where
 cast-if5 : tie.Need-overflow_cast-words
 cast-if5 c = omega (arith, c.shared_slice_known-4-1.given 4)
 
-cast-if5-2 : tie.Need-overflow_cast-words-2
+cast-if5-2 : tie.Need-overflow_cast-size
 cast-if5-2 c = omega (arith, few c.before)
 
 mul-if5 : tie.Need-overflow_mul-pages
@@ -135,7 +135,7 @@ returns-7 c =
     (record {
       part = part (one (a e).before);
       words = words.words_good.ensures.sound (places.if-not-words_good.false);
-      rest = places.empty_from.ensures.sound (not-false _ (a e).if-not-empty_from.false);
+      rest = places.empty_from.ensures.sound ((a e).if-not-empty_from.false);
       pages = (a e).audit-pages.ensures.0.sound (good e);
       free = mir-counted (five r);
       request = r.request_good.ensures.sound (c.if-not-request_good.false);

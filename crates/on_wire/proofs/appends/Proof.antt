@@ -15,10 +15,10 @@ unless false asked = refl
 returns : tie.Need-returns
 unfolding appends
 returns c =
-    let b = c.before in
-    let i = b.before in
-    let x = i.before.args in
-    c.either.ensures ∙ ap₂ (λ (n a : Bool). not n || a) i.is_set.ensures b.byte-is-set.ensures ∙ unless (bit 8 x.tcr) (bit 4 x.control)
+    let b = c in
+    let i = c in
+    let x = i.args in
+    c.either.ensures ∙ ap₂ (λ (n a : Bool). not n || a) i.is_set-always.ensures b.byte_is_set-asked.ensures ∙ unless (bit 8 x.tcr) (bit 4 x.control)
 
-pub appends-spec : {M : Type 1} → statement M
-appends-spec = tie.close (tie.spec (λ c κs. search rules) (λ c κs. search rules) (λ c κs. search rules) returns)
+pub appends_spec : {M : Type 1} → statement M
+appends_spec = tie.close (tie.spec (λ c κs. search rules) (λ c κs. search rules) (λ c κs. search rules) returns)

@@ -8,33 +8,33 @@ use Rattle.on_wire.proofs.Padding.{ends_bare, ends_fcs}
 use Rattle.on_wire.proofs.end_out.Statement.{statement}
 use Rattle.on_wire.proofs.end_out.Tie as tie
 
-returns : tie.Need-returns
+returns : tie.Need-returns-then-not-with_fcs
 returns c =
-    let p = c.before.before.before in
-    let a = p.before.before in
-    let x = a.before.before.args in
-    ends_bare x.tcr x.control _ x.out.now a.appends.ensures p.pad-out.ensures.0 (not-true a.appends.result c.if1.true)
+    let p = c in
+    let a = c in
+    let x = a.args in
+    ends_bare x.tcr x.control _ x.out.now a.appends-with_fcs.ensures p.pad_out-end.ensures.0 (not-true a.appends-with_fcs.result c.if-not-with_fcs.true)
 
-slice-aggregate-fcs : tie.Need-slice-aggregate-fcs
+slice-aggregate-fcs : tie.Need-slice_bounds-fcs-end-2
 slice-aggregate-fcs c =
-    let o = c.before.before.before in
-    let p = o.before in
-    sym (length-take-le _ _ (omega (arith, p.before.before.before.before.requires, p.pad-out.ensures.1, o.out.given)))
+    let o = c in
+    let p = c in
+    sym (length-take-le _ _ (omega (arith, p.requires, p.pad_out-end.ensures.1, o.out.given)))
 
-returns-2 : tie.Need-returns-2
+returns-2 : tie.Need-returns
 returns-2 c =
-    let f = c.before.before in
-    let k = f.before.before in
-    let e = k.before.before in
-    let p = e.before.before.before in
-    let a = p.before.before in
-    let s = a.before.before in
+    let f = c in
+    let k = c in
+    let e = c in
+    let p = c in
+    let a = c in
+    let s = c in
     let x = s.args in
-    ends_fcs x.tcr x.control _ x.out.now a.appends.ensures p.pad-out.ensures.0 (not-false a.appends.result e.if1.false)
-    (omega (arith, s.requires.1, p.pad-out.ensures.1)) k.fcs.ensures f.put-fcs.ensures refl
+    ends_fcs x.tcr x.control _ x.out.now a.appends-with_fcs.ensures p.pad_out-end.ensures.0 (not-false a.appends-with_fcs.result e.if-not-with_fcs.false)
+    (omega (arith, s.requires.1, p.pad_out-end.ensures.1)) k.fcs-fcs.ensures f.put_fcs.ensures refl
 
-pub end-out-spec : {M : Type 1} → statement M
-end-out-spec =
+pub end_out_spec : {M : Type 1} → statement M
+end_out_spec =
     tie.close
     (tie.spec
     (λ c κs. search rules)

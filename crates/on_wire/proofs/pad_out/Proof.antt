@@ -11,38 +11,38 @@ use Rattle.on_wire.proofs.Padding.{pads_nothing, pads}
 use Rattle.on_wire.proofs.pad_out.Statement.{statement}
 use Rattle.on_wire.proofs.pad_out.Tie as tie
 
-returns : tie.Need-returns
+returns : tie.Need-returns-then-not-is_set
 returns c =
-    let i = c.before in
-    let s = i.before.before in
+    let i = c in
+    let s = c in
     let x = s.args in
-    (pads_nothing x.fcs x.tcr x.len x.out.now (omega (arith, s.requires)) (sym i.is_set.ensures ∙ not-true i.is_set.result c.if1.true), s.requires.0)
+    (pads_nothing x.fcs x.tcr x.len x.out.now (omega (arith, s.requires)) (sym i.is_set.ensures ∙ c.if-not-is_set.true), s.requires.0)
 
-abbrev least_at : tie.After-pad → tie.After-least-length
+abbrev least_at : tie.After-pad → tie.After-least_length-least
 least_at p = p.before.before
 
-abbrev start : tie.After-least-length → tie.Start
+abbrev start : tie.After-least_length-least → tie.Start
 start l = l.before.before.before.before
 
 -- with its padding, where v is the length that is returned
 padded-out : (p : tie.After-pad) (v : ℕ) → let l = least_at p in let x = (start l).args in
-    v ≡ x.len + (l.least-length.result - x.len) → PutsOut (padded x.fcs x.tcr (take x.len x.out.now)) x.out.now p.pad.new.0 v
+    v ≡ x.len + (l.least_length-least.result - x.len) → PutsOut (padded x.fcs x.tcr (take x.len x.out.now)) x.out.now p.pad.new.0 v
 padded-out p v h =
     let l = least_at p in
-    let i = l.before.before in
+    let i = l in
     let s = start l in
     let x = s.args in
-    pads x.fcs x.tcr x.len x.out.now (omega (arith, s.pre)) l.least-length.result l.least-length.ensures.0
-    (sym i.is_set.ensures ∙ not-false i.is_set.result l.before.if1.left) (omega (arith, s.pre, l.least-length.ensures.1)) p.pad.ensures h
+    pads x.fcs x.tcr x.len x.out.now (omega (arith, s.requires)) l.least_length-least.result l.least_length-least.ensures.0
+    (sym i.is_set.ensures ∙ l.if-not-is_set.false) (omega (arith, s.requires, l.least_length-least.ensures.1)) p.pad.ensures h
 
-returns-2 : tie.Need-returns-2
-returns-2 c = let p = c.before.before.before in (padded-out p _ (omega (arith, c.if2.true)), omega (arith, (least_at p).least-length.ensures.1))
+returns-2 : tie.Need-returns-then-len-least
+returns-2 c = let p = c.before.before.before in (padded-out p _ (omega (arith, c.if-len-least.true)), omega (arith, (least_at p).least_length-least.ensures.1))
 
-returns-3 : tie.Need-returns-3
-returns-3 c = let p = c.before.before.before in (padded-out p _ (omega (arith, c.if2.false)), (start (least_at p)).requires.0)
+returns-3 : tie.Need-returns-else-len-least
+returns-3 c = let p = c.before.before.before in (padded-out p _ (omega (arith, c.if-len-least.false)), (start (least_at p)).requires.0)
 
-pub pad-out-spec : {M : Type 1} → statement M
-pad-out-spec =
+pub pad_out_spec : {M : Type 1} → statement M
+pad_out_spec =
     tie.close
     (tie.spec
     (λ c κs. search rules)

@@ -12,13 +12,13 @@ use Rattle.on_wire.proofs.put_fcs.Tie as tie
 returns : tie.Need-returns
 unfolding four_bytes
 returns c =
-    let p = c.before.before in
-    let x = p.before.before.before.args in
+    let p = c in
+    let x = p.args in
     let top : x.fcs / 2 ^ 24 ≡ x.fcs / 2 ^ 24 % 256 = omega arith in
     p.put_four.ensures ∙ ap (λ (d : ℕ). sets x.out.now x.at (x.fcs % 256 ∷ x.fcs / 2 ^ 8 % 256 ∷ x.fcs / 2 ^ 16 % 256 ∷ d ∷ [])) top
 
-pub put-fcs-spec : {M : Type 1} → statement M
-put-fcs-spec =
+pub put_fcs_spec : {M : Type 1} → statement M
+put_fcs_spec =
     tie.close
     (tie.spec
     (λ c. search rules)

@@ -7,51 +7,51 @@ use Rattle.commands.specs.Steps.{decode_allocate, decode_unknown}
 use Rattle.commands.proofs.decode.decoded.Statement.{statement}
 use Rattle.commands.proofs.decode.decoded.Tie as tie
 
-returns : tie.Need-returns
+returns : tie.Need-returns-in-0
 unfolding decode
-returns c = sym (ap decode c.match.keys1)
+returns c = sym (ap decode c.in-0.is)
 
-returns-2 : tie.Need-returns-2
+returns-2 : tie.Need-returns-in-64
 unfolding decode
-returns-2 c = sym (ap decode c.match.keys2)
+returns-2 c = sym (ap decode c.in-64.is)
 
-returns-3 : tie.Need-returns-3
+returns-3 : tie.Need-returns-in-96
 unfolding decode
-returns-3 c = sym (ap decode c.match.keys3)
+returns-3 c = sym (ap decode c.in-96.is)
 
-returns-4 : tie.Need-returns-4
+returns-4 : tie.Need-returns-in-128
 unfolding decode
-returns-4 c = sym (ap decode c.match.keys4)
+returns-4 c = sym (ap decode c.in-128.is)
 
-returns-5 : tie.Need-returns-5
+returns-5 : tie.Need-returns-in-160
 unfolding decode
-returns-5 c = sym (ap decode c.match.keys5)
+returns-5 c = sym (ap decode c.in-160.is)
 
-returns-6 : tie.Need-returns-6
+returns-6 : tie.Need-returns-in-192
 unfolding decode
-returns-6 c = sym (ap decode c.match.keys6)
+returns-6 c = sym (ap decode c.in-192.is)
 
-returns-7 : tie.Need-returns-7
+returns-7 : tie.Need-returns-in-224
 unfolding decode
-returns-7 c = sym (ap decode c.match.keys7)
+returns-7 c = sym (ap decode c.in-224.is)
 
-returns-8 : tie.Need-returns-8
-returns-8 c = sym (decode_allocate _ c.before.if1.false c.if2.true)
+returns-8 : tie.Need-returns-in-32-to-39
+returns-8 c = sym (decode_allocate _ c.if-value-lt32.false c.if-value-lt40.true)
 
-returns-9 : tie.Need-returns-9
+returns-9 : tie.Need-returns-in_default
 returns-9 c =
-    let v = c.before.before.args.value in
-    let n = c.before.match.rest in
-    sym (decode_unknown v n.0.0.0.0.0.0.1 (λ e. omega (arith, c.if1.true)) n.0.0.0.0.0.1 n.0.0.0.0.1 n.0.0.0.1 n.0.0.1 n.0.1 n.1)
+    let v = c.args.value in
+    let n = c.in_default.in_default-own.rest in
+    sym (decode_unknown v n.0.0.0.0.0.0.1 (λ e. omega (arith, c.if-value-lt32.true)) n.0.0.0.0.0.1 n.0.0.0.0.1 n.0.0.0.1 n.0.0.1 n.0.1 n.1)
 
-returns-10 : tie.Need-returns-10
+returns-10 : tie.Need-returns-in_default-2
 returns-10 c =
-    let v = c.before.before.before.args.value in
-    let n = c.before.before.match.rest in
-    sym (decode_unknown v n.0.0.0.0.0.0.1 (λ e. omega (arith, c.if2.false)) n.0.0.0.0.0.1 n.0.0.0.0.1 n.0.0.0.1 n.0.0.1 n.0.1 n.1)
+    let v = c.args.value in
+    let n = c.in_default.in_default-own.rest in
+    sym (decode_unknown v n.0.0.0.0.0.0.1 (λ e. omega (arith, c.if-value-lt40.false)) n.0.0.0.0.0.1 n.0.0.0.0.1 n.0.0.0.1 n.0.0.1 n.0.1 n.1)
 
-pub decoded-spec : {M : Type 1} → statement M
-decoded-spec =
+pub decoded_spec : {M : Type 1} → statement M
+decoded_spec =
     tie.close
     (tie.spec
     (λ c. search rules)

@@ -6,7 +6,7 @@ use Rattle.commands.proofs.register.is_allocated.Statement.{statement}
 use Rattle.commands.proofs.register.is_allocated.Tie as tie
 
 returns : tie.Need-returns
-returns c = c.has-pages.ensures ∙ ap some? c.before.set-of.ensures
+returns c = c.has_pages.ensures ∙ ap some? c.set_of.ensures
 
-pub is-allocated-spec : {M : Type 1} → statement M
-is-allocated-spec = tie.close (tie.spec (λ c κs. search rules) (λ c κs. search rules) returns)
+pub is_allocated_spec : {M : Type 1} → statement M
+is_allocated_spec = tie.close (tie.spec (λ c κs. search rules) (λ c κs. search rules) returns)

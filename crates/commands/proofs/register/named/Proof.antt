@@ -6,7 +6,7 @@ use Rattle.commands.proofs.register.named.Tie as tie
 
 returns : tie.Need-returns
 unfolding low_byte
-returns c = c.low-byte.ensures
+returns c = c.low_byte.ensures
 
-pub named-spec : {M : Type 1} → statement M
-named-spec = tie.close (tie.spec (λ c. search rules) (λ c κs. search rules) returns)
+pub named_spec : {M : Type 1} → statement M
+named_spec = tie.close (tie.spec (λ c. search rules) (λ c κs. search rules) returns)

@@ -14,22 +14,22 @@ use borrow.Author.Rules.{rules}
 use Rattle.commands.proofs.rx.do_remove.Statement.{statement}
 use Rattle.commands.proofs.rx.do_remove.Tie as tie
 
-returns : tie.Need-returns
+returns : tie.Need-returns-then-words-eq0
 returns c = λ l s pages mem.
-    let a = c.before.before.before.before in
-    unchanged rules.remove_rx _ s _ mem answer.RxEmpty (record { kept = a.requires.0; queues = a.requires.1; sets = pages }) (removes_none _ (sym a.requires.1.rx.many ∙ c.if1.true))
+    let a = c in
+    unchanged rules.remove_rx _ s _ mem answer.RxEmpty (record { kept = a.requires.0; queues = a.requires.1; sets = pages }) (removes_none _ (sym a.requires.1.rx.many ∙ c.if-words-eq0.true))
 
-returns-2 : tie.Need-returns-2
+returns-2 : tie.Need-returns
 returns-2 c = λ l s pages mem.
-    let h = c.before.before.before.before in
-    let e = h.before.before.before in
-    let a = e.before.before.before.before in
+    let h = c in
+    let e = c in
+    let a = c in
     let w = a.args.words.now in
     let q = a.args.queues.now in
-    let some : 0 < length (queue_in 0 (word w 6) q) = omega (arith, a.requires.1.rx.many, e.if1.false) in
-    performs rules.remove_rx w s q mem (λ x. in_pool (set_rx (drop 1 x.pool.rx)) x) (removes (view_of l w s q mem) some) (rejoins_chip h.leave-rx.ensures.1 l s mem) (rejoins_sound h.leave-rx.ensures.1 pages)
+    let some : 0 < length (queue_in 0 (word w 6) q) = omega (arith, a.requires.1.rx.many, e.if-words-eq0.false) in
+    performs rules.remove_rx w s q mem (λ x. in_pool (set_rx (drop 1 x.pool.rx)) x) (removes (view_of l w s q mem) some) (rejoins_chip h.leave_rx.ensures.1 l s mem) (rejoins_sound h.leave_rx.ensures.1 pages)
 
-pub do-remove-spec : {M : Type 1} → statement M
-do-remove-spec =
+pub do_remove_spec : {M : Type 1} → statement M
+do_remove_spec =
     tie.close
     (tie.spec (λ c. search rules) returns (λ c κs. search rules) (λ c. search rules) (λ c. search rules) returns-2)

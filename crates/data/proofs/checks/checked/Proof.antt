@@ -18,40 +18,40 @@ use Rattle.data.proofs.checks.checked.Statement.{statement}
 use Rattle.data.proofs.checks.checked.Tie as tie
 
 -- the one test that is made
-tests : (k : tie.After-either2) → let w = k.before.before.before.before in
-    k.either2.result ≡ eqb w.without.result 0 || (against w.before.args.reading w.before.args.pointer || odd_fixed w.before.args.pointer)
+tests : (k : tie.After-either) → let w = k in
+    k.either.result ≡ eqb w.without-rest.result 0 || (against w.args.reading w.args.pointer || odd_fixed w.args.pointer)
 tests k =
-    let o = k.before.before in
-    k.either2.ensures ∙ ap (λ (b : Bool). eqb o.before.before.without.result 0 || b) (k.before.either.ensures ∙ ap₂ ◌||◌ o.before.is-against.ensures o.is-odd-fixed.ensures)
+    let o = k in
+    k.either.ensures ∙ ap (λ (b : Bool). eqb o.without-rest.result 0 || b) (k.either-refused.ensures ∙ ap₂ ◌||◌ o.is_against.ensures o.is_odd_fixed.ensures)
 
-returns : tie.Need-returns
+returns : tie.Need-returns-then-either
 unfolding address
 returns c =
     let k = c.before.before.before in
-    let w = k.before.before.before.before in
-    let s = w.before in
-    refuses s.args.reading s.args.pointer (pages_of s.args.set) (eqb w.without.result 0) c.refusal.result (c.refusal.ensures ∙ ap (λ (b : Bool). rules.refusal (refusal_if b s.args.reading s.args.pointer)) c.before.has_pages.ensures) (sym (tests k) ∙ c.before.before.if1.true)
-    (λ e. rest_none s.args.set w.without.result _ w.without.ensures (eqb-true _ _ e))
+    let w = c in
+    let s = c in
+    refuses s.args.reading s.args.pointer (pages_of s.args.set) (eqb w.without-rest.result 0) c.refusal.result (c.refusal.ensures ∙ ap (λ (b : Bool). rules.refusal (refusal_if b s.args.reading s.args.pointer)) c.has_pages.ensures) (sym (tests k) ∙ c.if-either.true)
+    (λ e. rest_none s.args.set w.without-rest.result _ w.without-rest.ensures (eqb-true _ _ e))
 
 -- so there is a page
-some : (e : tie.Else1) → 0 < e.before.before.before.before.before.without.result
+some : (e : tie.Else-either) → 0 < e.without-rest.result
 some e =
-    let w = e.before.before.before.before.before in
-    omega (arith, eqb-false w.without.result 0 (or_left _ _ (sym (tests e.before) ∙ e.if1.false)))
+    let w = e in
+    omega (arith, eqb-false w.without-rest.result 0 (or_left _ _ (sym (tests e.before) ∙ e.if-either.false)))
 
-returns-2 : tie.Need-returns-2
+returns-2 : tie.Need-returns
 unfolding address place
 returns-2 c =
     let e = c.before in
-    let w = e.before.before.before.before.before in
-    let s = w.before in
+    let w = c in
+    let s = c in
     let k = s.args.pointer % 2048 / 256 in
-    opens s.args.reading s.args.pointer (pages_of s.args.set) (eqb w.without.result 0) c.IsPlace-in.result w.without.result (sym (tests e.before) ∙ e.if1.false)
+    opens s.args.reading s.args.pointer (pages_of s.args.set) (eqb w.without-rest.result 0) c.place_in.result w.without-rest.result (sym (tests c.before.before) ∙ e.if-either.false)
     (record {
-      lies = c.IsPlace-in.ensures ∙ omega (arith, rest_first s.args.set w.without.result k w.without.ensures);
-      left = w.without.ensures;
-      reaches = omega (arith, rest_goes s.args.set w.without.result k w.without.ensures (search rules) (some e));
+      lies = c.place_in.ensures ∙ omega (arith, rest_first s.args.set w.without-rest.result k w.without-rest.ensures);
+      left = w.without-rest.ensures;
+      reaches = omega (arith, rest_goes s.args.set w.without-rest.result k w.without-rest.ensures (search rules) (some e));
     })
 
-pub checked-spec : {M : Type 1} → statement M
-checked-spec = tie.close (tie.spec (λ c κs. search rules) (λ c κs. search rules) (λ c κs. search rules) (λ c κs. search rules) (λ c κs. search rules) (λ c κs. search rules) (λ c κs. search rules) returns (λ c κs. some c) returns-2)
+pub checked_spec : {M : Type 1} → statement M
+checked_spec = tie.close (tie.spec (λ c κs. search rules) (λ c κs. search rules) (λ c κs. search rules) (λ c κs. search rules) (λ c κs. search rules) (λ c κs. search rules) (λ c κs. search rules) returns (λ c κs. some c) returns-2)

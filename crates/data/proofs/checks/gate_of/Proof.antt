@@ -12,12 +12,12 @@ use Rattle.data.proofs.checks.gate_of.Tie as tie
 
 returns : tie.Need-returns
 returns c =
-    let f = c.before.before in
-    let m = f.before in
-    let s = m.before.before.before.before in
+    let f = c in
+    let m = c in
+    let s = c in
     subst (λ (l : List ℕ). Guards s.args.reading (word s.args.words.now 19) l c.checked.result)
-    (f.set-of.ensures ∙ ap (λ (k : ℕ). get_or (map pages_of s.args.sets.now) k []) m.meant.ensures)
+    (f.set_of-set.ensures ∙ ap (λ (k : ℕ). get_or (map pages_of s.args.sets.now) k []) m.meant.ensures)
     c.checked.ensures
 
-pub gate-of-spec : {M : Type 1} → statement M
-gate-of-spec = tie.close (tie.spec (λ c κs. search rules) (λ c κs. search rules) (λ c. search rules) (λ c κs. search rules) returns)
+pub gate_of_spec : {M : Type 1} → statement M
+gate_of_spec = tie.close (tie.spec (λ c κs. search rules) (λ c κs. search rules) (λ c. search rules) (λ c κs. search rules) returns)

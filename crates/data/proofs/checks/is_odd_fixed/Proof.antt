@@ -8,7 +8,7 @@ use Rattle.data.proofs.checks.is_odd_fixed.Tie as tie
 
 returns : tie.Need-returns
 unfolding odd_fixed
-returns c = c.both.ensures ∙ ap₂ (λ (a b : Bool). a && not b) c.before.before.is_set.ensures c.before.is-set2.ensures
+returns c = c.both.ensures ∙ ap₂ (λ (a b : Bool). a && not b) c.is_set.ensures c.is_set-2.ensures
 
-pub is-odd-fixed-spec : {M : Type 1} → statement M
-is-odd-fixed-spec = tie.close (tie.spec (λ c κs. search rules) (λ c κs. search rules) (λ c κs. search rules) returns)
+pub is_odd_fixed_spec : {M : Type 1} → statement M
+is_odd_fixed_spec = tie.close (tie.spec (λ c κs. search rules) (λ c κs. search rules) (λ c κs. search rules) returns)

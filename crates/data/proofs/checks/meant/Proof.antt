@@ -24,26 +24,26 @@ set : (p k : ℕ) (rx : List ℕ) → rcv p ≡ true → meant_by p k rx ≡ hea
 unfolding meant_by
 set p k rx e = rw e
 
-returns : tie.Need-returns
+returns : tie.Need-returns-then-not-is_set
 unfolding low_byte
 returns c =
-    let e = c.before.before in
-    c.low-byte.ensures ∙ sym (clear _ _ _ (sym e.before.is_set.ensures ∙ not-true _ e.if1.true))
+    let e = c in
+    c.low_byte.ensures ∙ sym (clear _ _ _ (sym e.is_set.ensures ∙ e.if-not-is_set.true))
 
-returns-2 : tie.Need-returns-2
+returns-2 : tie.Need-returns-then-words-eq0
 returns-2 c =
-    let e = c.before.before in
-    let s = e.before.before.before.before.before in
-    ap (λ (n : ℕ). head_or24 (queue_in 0 n s.args.queues.now)) (sym c.if2.true) ∙ sym (set _ _ _ (sym e.before.is_set.ensures ∙ not-false _ e.if1.false))
+    let e = c in
+    let s = c in
+    ap (λ (n : ℕ). head_or24 (queue_in 0 n s.args.queues.now)) (sym c.if-words-eq0.true) ∙ sym (set _ _ _ (sym e.is_set.ensures ∙ e.if-not-is_set.false))
 
-returns-3 : tie.Need-returns-3
+returns-3 : tie.Need-returns
 returns-3 c =
-    let e = c.before.before.before in
-    let s = e.before.before.before.before.before in
+    let e = c in
+    let s = c in
     let h = s.requires.1 in
-    c.rx-head.ensures ∙ head_told 0 _ s.args.queues.now h.rx (omega (arith, c.before.if2.false))
-    ∙ ap head_or24 (sym (head_and_rest (queue_in 0 (word s.args.words.now 6) s.args.queues.now) 0 (omega (arith, h.rx.many, c.before.if2.false))))
-    ∙ sym (set _ _ _ (sym e.before.is_set.ensures ∙ not-false _ e.if1.false))
+    c.rx_head.ensures ∙ head_told 0 _ s.args.queues.now h.rx (omega (arith, c.if-words-eq0.false))
+    ∙ ap head_or24 (sym (head_and_rest (queue_in 0 (word s.args.words.now 6) s.args.queues.now) 0 (omega (arith, h.rx.many, c.if-words-eq0.false))))
+    ∙ sym (set _ _ _ (sym e.is_set.ensures ∙ e.if-not-is_set.false))
 
-pub meant-spec : {M : Type 1} → statement M
-meant-spec = tie.close (tie.spec (λ c. search rules) (λ c κs. search rules) (λ c. search rules) (λ c κs. search rules) returns (λ c. search rules) returns-2 (λ c κs. search rules) returns-3)
+pub meant_spec : {M : Type 1} → statement M
+meant_spec = tie.close (tie.spec (λ c. search rules) (λ c κs. search rules) (λ c. search rules) (λ c κs. search rules) returns (λ c. search rules) returns-2 (λ c κs. search rules) returns-3)

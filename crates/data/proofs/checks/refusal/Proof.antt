@@ -6,30 +6,30 @@ use Rattle.data.specs.Access.{refusal_if}
 use Rattle.data.proofs.checks.refusal.Statement.{statement}
 use Rattle.data.proofs.checks.refusal.Tie as tie
 
-returns : tie.Need-returns
+returns : tie.Need-returns-then-is_set
 unfolding refusal_if
-returns c = rw (not-true c.before.before.before.args.has_pages c.before.before.if1.true, sym c.before.is_set.ensures ∙ c.if2.true)
+returns c = rw (not-true c.args.has_pages c.if-not-has_pages.true, sym c.is_set.ensures ∙ c.if-is_set.true)
 
-returns-2 : tie.Need-returns-2
+returns-2 : tie.Need-returns-then-not-has_pages
 unfolding refusal_if
-returns-2 c = rw (not-true c.before.before.before.args.has_pages c.before.before.if1.true, sym c.before.is_set.ensures ∙ c.if2.false)
+returns-2 c = rw (not-true c.args.has_pages c.if-not-has_pages.true, sym c.is_set.ensures ∙ c.if-is_set.false)
 
 -- the packet has pages
-returns-3 : tie.Need-returns-3
+returns-3 : tie.Need-returns-then-is_against
 unfolding refusal_if
-returns-3 c = rw (not-false c.before.before.before.args.has_pages c.before.before.if1.false, sym c.before.is-against.ensures ∙ c.if3.true)
+returns-3 c = rw (not-false c.args.has_pages c.if-not-has_pages.false, sym c.is_against.ensures ∙ c.if-is_against.true)
 
-returns-4 : tie.Need-returns-4
+returns-4 : tie.Need-returns-then-is_odd_fixed
 unfolding refusal_if
 returns-4 c =
-    let f = c.before.before in
-    rw (not-false f.before.before.before.args.has_pages f.before.before.if1.false, sym f.before.is-against.ensures ∙ f.if3.false, sym c.before.is-odd-fixed.ensures ∙ c.if4.true)
+    let f = c in
+    rw (not-false f.args.has_pages f.if-not-has_pages.false, sym f.is_against.ensures ∙ f.if-is_against.false, sym c.is_odd_fixed.ensures ∙ c.if-is_odd_fixed.true)
 
-returns-5 : tie.Need-returns-5
+returns-5 : tie.Need-returns
 unfolding refusal_if
 returns-5 c =
-    let f = c.before.before in
-    rw (not-false f.before.before.before.args.has_pages f.before.before.if1.false, sym f.before.is-against.ensures ∙ f.if3.false, sym c.before.is-odd-fixed.ensures ∙ c.if4.false)
+    let f = c in
+    rw (not-false f.args.has_pages f.if-not-has_pages.false, sym f.is_against.ensures ∙ f.if-is_against.false, sym c.is_odd_fixed.ensures ∙ c.if-is_odd_fixed.false)
 
-pub refusal-spec : {M : Type 1} → statement M
-refusal-spec = tie.close (tie.spec (λ c κs. search rules) returns returns-2 (λ c κs. search rules) returns-3 (λ c κs. search rules) returns-4 returns-5)
+pub refusal_spec : {M : Type 1} → statement M
+refusal_spec = tie.close (tie.spec (λ c κs. search rules) returns returns-2 (λ c κs. search rules) returns-3 (λ c κs. search rules) returns-4 returns-5)

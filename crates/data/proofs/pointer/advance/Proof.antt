@@ -11,9 +11,9 @@ use Rattle.data.proofs.pointer.advance.Tie as tie
 
 returns : tie.Need-returns
 returns c =
-    let s = c.before.before.before in
+    let s = c in
     let w = s.args.words.now in
-    sets_as (store_pointer _ w s.requires.0) (ap (λ (y : ℕ). set_pointer y (registers_in w)) c.next-pointer.ensures)
+    sets_as (store_pointer _ w s.requires.0) (ap (λ (y : ℕ). set_pointer y (registers_in w)) c.next_pointer.ensures)
 
-pub advance-spec : {M : Type 1} → statement M
-advance-spec = tie.close (tie.spec (λ c. search rules) (λ c κs. search rules) (λ c. search rules) (λ c. search rules) returns)
+pub advance_spec : {M : Type 1} → statement M
+advance_spec = tie.close (tie.spec (λ c. search rules) (λ c κs. search rules) (λ c. search rules) (λ c. search rules) returns)

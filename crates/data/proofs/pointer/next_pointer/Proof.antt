@@ -5,13 +5,13 @@ use Rattle.rules.specs.Data.{advance, next}
 use Rattle.data.proofs.pointer.next_pointer.Statement.{statement}
 use Rattle.data.proofs.pointer.next_pointer.Tie as tie
 
-returns : tie.Need-returns
+returns : tie.Need-returns-then-is_set
 unfolding next advance
-returns c = rw (sym c.before.is_set.ensures ∙ c.if1.true)
+returns c = rw (sym c.is_set.ensures ∙ c.if-is_set.true)
 
-returns-2 : tie.Need-returns-2
+returns-2 : tie.Need-returns
 unfolding next
-returns-2 c = rw (sym c.before.is_set.ensures ∙ c.if1.false)
+returns-2 c = rw (sym c.is_set.ensures ∙ c.if-is_set.false)
 
-pub next-pointer-spec : {M : Type 1} → statement M
-next-pointer-spec = tie.close (tie.spec (λ c κs. search rules) (λ c. search rules) (λ c. search rules) (λ c. search rules) returns returns-2)
+pub next_pointer_spec : {M : Type 1} → statement M
+next_pointer_spec = tie.close (tie.spec (λ c κs. search rules) (λ c. search rules) (λ c. search rules) (λ c. search rules) returns returns-2)

@@ -13,13 +13,13 @@ use Rattle.data.proofs.reads.read_byte.Tie as tie
 returns : tie.Need-returns
 unfolding value_of get_bytes
 returns c =
-    let a = c.before.before.before.before in
-    let s = a.before.before.before.before in
+    let a = c in
+    let s = c in
     let mem = s.args.memory.now in (
       λ pages state queues h o.
           reads 1 pages s.args.words.now state queues mem o (first_goes h) a.advance.ensures _ (c.word.ensures ∙ ap (λ (i : ℕ). word_of (get_or mem i 0) 0) h.lies),
       search rules,
     )
 
-pub read-byte-spec : {M : Type 1} → statement M
-read-byte-spec = tie.close (tie.spec (λ c κs. search rules) (λ c. search rules) (λ c κs. search rules) (λ c. search rules) returns)
+pub read_byte_spec : {M : Type 1} → statement M
+read_byte_spec = tie.close (tie.spec (λ c κs. search rules) (λ c. search rules) (λ c κs. search rules) (λ c. search rules) returns)

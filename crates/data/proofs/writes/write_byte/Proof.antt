@@ -13,14 +13,14 @@ use Rattle.data.proofs.writes.write_byte.Tie as tie
 returns : tie.Need-returns
 unfolding put_bytes
 returns c =
-    let a = c.before.before.before in
-    let s = a.before.before.before.before in
+    let a = c in
+    let s = c in
     let mem = s.args.memory.now in (
       λ pages state queues h o.
           writes (bytes_for false s.args.value) pages s.args.words.now state queues mem o (first_goes h) a.advance.ensures
-          (ap₂ (λ (i b : ℕ). set mem i b) h.lies c.low-byte.ensures),
+          (ap₂ (λ (i b : ℕ). set mem i b) h.lies c.low_byte.ensures),
       (search rules, search rules),
     )
 
-pub write-byte-spec : {M : Type 1} → statement M
-write-byte-spec = tie.close (tie.spec (λ c κs. search rules) (λ c κs. search rules) (λ c. search rules) (λ c. search rules) (λ c. search rules) returns)
+pub write_byte_spec : {M : Type 1} → statement M
+write_byte_spec = tie.close (tie.spec (λ c κs. search rules) (λ c κs. search rules) (λ c. search rules) (λ c. search rules) (λ c. search rules) returns)

@@ -9,24 +9,24 @@ use Rattle.data.specs.Behind.{next_goes, next_lies, two_written, writes}
 use Rattle.data.proofs.writes.write_word.Statement.{statement}
 use Rattle.data.proofs.writes.write_word.Tie as tie
 
-inside : tie.Need-slice-write-memory-2
+inside : tie.Need-bounds-memory-i-2
 inside c =
-    let e = c.before.before.before.before.before.before in
-    let s = e.before.before.before in
-    rw (length-set s.args.memory.now s.args.i c.before.low_byte.result) (omega (arith, s.requires.full, s.requires.inside, e.if1.false))
+    let e = c in
+    let s = c in
+    rw (length-set s.args.memory.now s.args.i c.low_byte.result) (omega (arith, s.requires.full, s.requires.inside, e.if-i-eq255.false))
 
-returns-2 : tie.Need-returns-2
+returns-2 : tie.Need-returns
 returns-2 c =
-    let b = c.before in
-    let a = b.before.before.before in
-    let e = a.before.before in
-    let s = e.before.before.before in
+    let b = c in
+    let a = c in
+    let e = c in
+    let s = c in
     let mem = s.args.memory.now in (
       λ pages state queues h o.
-          writes (bytes_for true s.args.value) pages s.args.words.now state queues mem o (next_goes h e.if1.false) a.advance.ensures
-          (two_written mem pages _ s.args.value b.low_byte.ensures c.high_byte.ensures h.lies (sym (next_lies h e.if1.false))),
+          writes (bytes_for true s.args.value) pages s.args.words.now state queues mem o (next_goes h e.if-i-eq255.false) a.advance.ensures
+          (two_written mem pages _ s.args.value b.low_byte.ensures c.high_byte.ensures h.lies (sym (next_lies h e.if-i-eq255.false))),
       (search rules, search rules),
     )
 
-pub write-word-spec : {M : Type 1} → statement M
-write-word-spec = tie.close (tie.spec (λ c κs. search rules) (λ c. search rules) (λ c. search rules) (λ c. search rules) (λ c κs. search rules) (λ c κs. search rules) (λ c. search rules) (λ c κs. search rules) (λ c. search rules) inside (λ c. search rules) (λ c. search rules) returns-2)
+pub write_word_spec : {M : Type 1} → statement M
+write_word_spec = tie.close (tie.spec (λ c κs. search rules) (λ c. search rules) (λ c. search rules) (λ c. search rules) (λ c κs. search rules) (λ c κs. search rules) (λ c. search rules) (λ c κs. search rules) (λ c. search rules) inside (λ c. search rules) (λ c. search rules) returns-2)

@@ -52,7 +52,7 @@ abbrev B : tie.After-fresh-rx → tie.Else-not-counts_fit
 B a = a.before.before.before
 
 returns-2 : tie.Need-returns-then-not-rx
-returns-2 c = let a = c.before.before in let s = S (B a) in refutes (as_true a.fresh-rx.ensures.0) (queues.good_rx (size s) (w s) (p s) (q s) (long s)) (c.if-not-rx.true)
+returns-2 c = let a = c.before.before in let s = S (B a) in refutes (as_true a.fresh-rx.ensures.0) (queues.good_rx (size s) (w s) (p s) (q s) (long s)) (not-true _ c.if-not-rx.true)
 
 module _ (e : tie.Else-not-rx) where
   abbrev a : tie.After-fresh-rx
@@ -62,7 +62,7 @@ module _ (e : tie.Else-not-rx) where
   s = S (B a)
 
   rx-good : a.fresh-rx.result.0 ≡ true
-  rx-good = e.if-not-rx.false
+  rx-good = not-false _ e.if-not-rx.false
 
   rx-passes : passes (map pages_of (p s)) 0 (queues.rx (size s) (w s) (p s) (q s) (long s)) ≡ true
   rx-passes = (as_true a.fresh-rx.ensures.0).sound rx-good
@@ -85,7 +85,7 @@ tx-test : (t : tie.After-fresh-tx) → let o = s (E t) in
 tx-test t = let o = s (E t) in t.fresh-tx.ensures.0 ∙ ap (λ (n : ℕ). passes (map pages_of (p o)) n (queues.tx (size o) (w o) (p o) (q o) (long o))) (rx-seen (E t))
 
 returns-3 : tie.Need-returns-then-not-tx
-returns-3 c = let t = c.before.before in let o = s (E t) in refutes (as_true (tx-test t)) (queues.good_tx (size o) (w o) (p o) (q o) (long o)) (c.if-not-tx.true)
+returns-3 c = let t = c.before.before in let o = s (E t) in refutes (as_true (tx-test t)) (queues.good_tx (size o) (w o) (p o) (q o) (long o)) (not-true _ c.if-not-tx.true)
 
 module _ (f : tie.Else-not-tx) where
   abbrev t : tie.After-fresh-tx
@@ -95,7 +95,7 @@ module _ (f : tie.Else-not-tx) where
   o = s (E t)
 
   tx-good : t.fresh-tx.result.0 ≡ true
-  tx-good = f.if-not-tx.false
+  tx-good = not-false _ f.if-not-tx.false
 
   tx-passes : passes (map pages_of (p o)) (queues.seen_rx (size o) (w o) (p o) (q o) (long o)) (queues.tx (size o) (w o) (p o) (q o) (long o)) ≡ true
   tx-passes = (as_true (tx-test t)).sound tx-good
@@ -143,7 +143,7 @@ returns-5 : tie.Need-returns-then-not-completion
 returns-5 c =
     let n = c.before.before in
     let u = o (F (M n).before) in
-    refutes (as_true n.all_below-completion.ensures.0) (queues.good_numbers (size u) (w u) (p u) (q u) (long u)) (c.if-not-completion.true)
+    refutes (as_true n.all_below-completion.ensures.0) (queues.good_numbers (size u) (w u) (p u) (q u) (long u)) (not-true _ c.if-not-completion.true)
 
 total-requires : tie.Need-total-requires
 total-requires c κs = long (o (F (M c.before.before).before))
@@ -160,7 +160,7 @@ module _ (z : tie.After-total) where
   u = o f
 
   numbers : n.all_below-completion.result.0 ≡ true
-  numbers = z.if-not-completion.false
+  numbers = not-false _ z.if-not-completion.false
 
   abbrev sums : ℕ
   sums = (a (E (t f))).fresh-rx.result.2 + (t f).fresh-tx.result.2 + n.all_below-completion.result.1
@@ -187,7 +187,7 @@ returns-6 c =
     let x = u z in
     let b = B (a (E (t v))) in
     let typed : (i : ℕ) → word (w x) i < 65536 = λ i. omega (arith, b.shared_slice_known-1.given i) in
-    let marks = (marks-test (M (n z)).before).sound (not-false _ (M (n z)).if-not-marks_good.false) in
+    let marks = (marks-test (M (n z)).before).sound ((M (n z)).if-not-marks_good.false) in
     let below = (as_true (n z).all_below-completion.ensures.0).sound (numbers z) in
     let good = queues.queues_good_lem (size x) (w x) (p x) (q x) (long x) (rx-passes (E (t v))) (tx-passes v) x.requires.3 typed (fit b) marks below in
     agrees (eq_decides z.total.result (sums z)) (λ e. good (sym z.total.ensures ∙ e ∙ sums-known z))

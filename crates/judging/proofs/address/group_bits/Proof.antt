@@ -9,29 +9,29 @@ use Rattle.rules.specs.Receive.{group_bits}
 use Rattle.judging.proofs.address.group_bits.Statement.{statement}
 use Rattle.judging.proofs.address.group_bits.Tie as tie
 
-returns : tie.Need-returns
+returns : tie.Need-returns-then-not-is_group
 unfolding group_bits
-returns c = (rw (sym c.before.is-group.ensures ∙ not-true _ c.if1.true), omega arith)
+returns c = (rw (sym c.is_group.ensures ∙ c.if-not-is_group.true), omega arith)
 
-returns-2 : tie.Need-returns-2
+returns-2 : tie.Need-returns-then-is_broadcast
 unfolding group_bits
 returns-2 c =
-    let e = c.before.before in
-    (rw (sym e.before.is-group.ensures ∙ not-false _ e.if1.false, sym c.before.is-broadcast.ensures ∙ c.if2.true), omega arith)
+    let e = c in
+    (rw (sym e.is_group.ensures ∙ e.if-not-is_group.false, sym c.is_broadcast.ensures ∙ c.if-is_broadcast.true), omega arith)
 
-returns-3 : tie.Need-returns-3
+returns-3 : tie.Need-returns
 unfolding group_bits
 returns-3 c =
-    let f = c.before in
-    let e = f.before.before in
-    let h = c.hash-of.ensures in (
-      rw (sym e.before.is-group.ensures ∙ not-false _ e.if1.false, sym f.before.is-broadcast.ensures ∙ f.if2.false)
+    let f = c in
+    let e = c in
+    let h = c.hash_of.ensures in (
+      rw (sym e.is_group.ensures ∙ e.if-not-is_group.false, sym f.is_broadcast.ensures ∙ f.if-is_broadcast.false)
           (ap (λ (x : ℕ). 2 * x + 1) h.0),
       omega (arith, h.1),
     )
 
-pub group-bits-spec : {M : Type 1} → statement M
-group-bits-spec =
+pub group_bits_spec : {M : Type 1} → statement M
+group_bits_spec =
     tie.close
     (tie.spec
     (λ c κs. search rules)

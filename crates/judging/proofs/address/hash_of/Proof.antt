@@ -11,9 +11,9 @@ use Rattle.judging.proofs.address.hash_of.Tie as tie
 returns : tie.Need-returns
 unfolding hash
 returns c =
-    let t = c.top-six.ensures in
-    let address = c.before.before.before.args.address.now in
-    (t.0 ∙ ap (λ (m : ℕ). mirror 32 m / 2 ^ 26) c.before.remainder.ensures ∙ ap (λ (m : ℕ). m / 2 ^ 26) (mirror_back 32 _ (crc_lt address)), t.1)
+    let t = c.top_six.ensures in
+    let address = c.args.address.now in
+    (t.0 ∙ ap (λ (m : ℕ). mirror 32 m / 2 ^ 26) c.remainder.ensures ∙ ap (λ (m : ℕ). m / 2 ^ 26) (mirror_back 32 _ (crc_lt address)), t.1)
 
-pub hash-of-spec : {M : Type 1} → statement M
-hash-of-spec = tie.close (tie.spec (λ c κs. search rules) (λ c κs. search rules) returns)
+pub hash_of_spec : {M : Type 1} → statement M
+hash_of_spec = tie.close (tie.spec (λ c κs. search rules) (λ c κs. search rules) returns)

@@ -7,8 +7,8 @@ use Rattle.judging.proofs.address.in_table.Tie as tie
 
 returns : tie.Need-returns
 returns c =
-    let s = c.before.before.before in
+    let s = c in
     c.is_set.ensures ∙ sym (table_word s.args.words.now s.args.hash s.requires.1)
 
-pub in-table-spec : {M : Type 1} → statement M
-in-table-spec = tie.close (tie.spec (λ c. search rules) (λ c. search rules) (λ c. search rules) (λ c. search rules) (λ c κs. search rules) returns)
+pub in_table_spec : {M : Type 1} → statement M
+in_table_spec = tie.close (tie.spec (λ c. search rules) (λ c. search rules) (λ c. search rules) (λ c. search rules) (λ c κs. search rules) returns)

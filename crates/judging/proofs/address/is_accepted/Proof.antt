@@ -6,34 +6,34 @@ use Rattle.rules.specs.Receive.{accepted}
 use Rattle.judging.proofs.address.is_accepted.Statement.{statement}
 use Rattle.judging.proofs.address.is_accepted.Tie as tie
 
-returns : tie.Need-returns
+returns : tie.Need-returns-then-is_set
 unfolding accepted
-returns c = rw (sym c.before.is_set.ensures ∙ c.if1.true)
+returns c = rw (sym c.is_set.ensures ∙ c.if-is_set.true)
 
-returns-2 : tie.Need-returns-2
+returns-2 : tie.Need-returns-then-is_broadcast
 unfolding accepted
 returns-2 c =
-    let e = c.before.before in
-    rw (sym e.before.is_set.ensures ∙ e.if1.false, sym c.before.is-broadcast.ensures ∙ c.if2.true)
+    let e = c in
+    rw (sym e.is_set.ensures ∙ e.if-is_set.false, sym c.is_broadcast.ensures ∙ c.if-is_broadcast.true)
 
-returns-3 : tie.Need-returns-3
+returns-3 : tie.Need-returns-then-is_wanted_group
 unfolding accepted
 returns-3 c =
-    let f = c.before.before in
-    let e = f.before.before in
-    rw (sym e.before.is_set.ensures ∙ e.if1.false, sym f.before.is-broadcast.ensures ∙ f.if2.false, sym c.before.is-wanted-group.ensures ∙ c.if3.true)
+    let f = c in
+    let e = c in
+    rw (sym e.is_set.ensures ∙ e.if-is_set.false, sym f.is_broadcast.ensures ∙ f.if-is_broadcast.false, sym c.is_wanted_group.ensures ∙ c.if-is_wanted_group.true)
 
-returns-4 : tie.Need-returns-4
+returns-4 : tie.Need-returns
 unfolding accepted
 returns-4 c =
-    let g = c.before in
-    let f = g.before.before in
-    let e = f.before.before in
-    rw (sym e.before.is_set.ensures ∙ e.if1.false, sym f.before.is-broadcast.ensures ∙ f.if2.false, sym g.before.is-wanted-group.ensures ∙ g.if3.false)
-    c.is-station.ensures
+    let g = c in
+    let f = c in
+    let e = c in
+    rw (sym e.is_set.ensures ∙ e.if-is_set.false, sym f.is_broadcast.ensures ∙ f.if-is_broadcast.false, sym g.is_wanted_group.ensures ∙ g.if-is_wanted_group.false)
+    c.is_station.ensures
 
-pub is-accepted-spec : {M : Type 1} → statement M
-is-accepted-spec =
+pub is_accepted_spec : {M : Type 1} → statement M
+is_accepted_spec =
     tie.close
     (tie.spec
     (λ c. search rules)

@@ -7,30 +7,30 @@ use Rattle.judging.proofs.Places.{six_bytes}
 use Rattle.judging.proofs.address.is_address.Statement.{statement}
 use Rattle.judging.proofs.address.is_address.Tie as tie
 
-returns : tie.Need-returns
+returns : tie.Need-returns-then-not-is_pair
 returns c =
-    let s = c.before.before.before.before.before in
+    let s = c in
     let a = s.args in
-    rw (six_bytes a.address.now a.x a.y a.z s.requires, sym c.before.is-pair.ensures ∙ not-true _ c.if1.true)
+    rw (six_bytes a.address.now a.x a.y a.z s.requires, sym c.is_pair.ensures ∙ c.if-not-is_pair.true)
 
-returns-2 : tie.Need-returns-2
+returns-2 : tie.Need-returns-then-not-is_pair-2
 returns-2 c =
-    let e = c.before.before.before.before in
-    let s = e.before.before.before.before.before in
+    let e = c in
+    let s = c in
     let a = s.args in
-    rw (six_bytes a.address.now a.x a.y a.z s.requires, sym e.before.is-pair.ensures ∙ not-false _ e.if1.false, sym c.before.is-pair2.ensures ∙ not-true _ c.if2.true)
+    rw (six_bytes a.address.now a.x a.y a.z s.requires, sym e.is_pair.ensures ∙ e.if-not-is_pair.false, sym c.is_pair-2.ensures ∙ c.if-not-is_pair-2.true)
 
-returns-3 : tie.Need-returns-3
+returns-3 : tie.Need-returns
 returns-3 c =
-    let f = c.before.before.before in
-    let e = f.before.before.before.before in
-    let s = e.before.before.before.before.before in
+    let f = c in
+    let e = c in
+    let s = c in
     let a = s.args in
-    rw (six_bytes a.address.now a.x a.y a.z s.requires, sym e.before.is-pair.ensures ∙ not-false _ e.if1.false, sym f.before.is-pair2.ensures ∙ not-false _ f.if2.false)
-    c.is-pair3.ensures
+    rw (six_bytes a.address.now a.x a.y a.z s.requires, sym e.is_pair.ensures ∙ e.if-not-is_pair.false, sym f.is_pair-2.ensures ∙ f.if-not-is_pair-2.false)
+    c.is_pair-3.ensures
 
-pub is-address-spec : {M : Type 1} → statement M
-is-address-spec =
+pub is_address_spec : {M : Type 1} → statement M
+is_address_spec =
     tie.close
     (tie.spec
     (λ c. search rules)

@@ -8,5 +8,5 @@ returns : tie.Need-returns
 unfolding broadcast
 returns c = c.is_Address.ensures
 
-pub is-broadcast-spec : {M : Type 1} → statement M
-is-broadcast-spec = tie.close (tie.spec (λ c κs. search rules) returns)
+pub is_broadcast_spec : {M : Type 1} → statement M
+is_broadcast_spec = tie.close (tie.spec (λ c κs. search rules) returns)

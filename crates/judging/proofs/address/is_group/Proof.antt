@@ -6,7 +6,7 @@ use Rattle.judging.proofs.address.is_group.Tie as tie
 
 returns : tie.Need-returns
 unfolding group
-returns c = c.byte-is-set.ensures
+returns c = c.byte_is_set.ensures
 
-pub is-group-spec : {M : Type 1} → statement M
-is-group-spec = tie.close (tie.spec (λ c. search rules) (λ c κs. search rules) returns)
+pub is_group_spec : {M : Type 1} → statement M
+is_group_spec = tie.close (tie.spec (λ c. search rules) (λ c κs. search rules) returns)

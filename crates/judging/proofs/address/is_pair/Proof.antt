@@ -9,8 +9,8 @@ use Rattle.judging.proofs.address.is_pair.Tie as tie
 
 returns : tie.Need-returns
 returns c =
-    let a = c.before.args in
+    let a = c.args in
     ap (λ (y : ℕ). eqb y a.x) c.word.ensures ∙ pair_word a.low a.high a.x (search rules)
 
-pub is-pair-spec : {M : Type 1} → statement M
-is-pair-spec = tie.close (tie.spec (λ c κs. search rules) returns)
+pub is_pair_spec : {M : Type 1} → statement M
+is_pair_spec = tie.close (tie.spec (λ c κs. search rules) returns)

@@ -8,24 +8,24 @@ use Rattle.state.specs.View.{registers_in}
 use Rattle.judging.proofs.address.is_wanted_group.Statement.{statement}
 use Rattle.judging.proofs.address.is_wanted_group.Tie as tie
 
-returns : tie.Need-returns
-returns c = rw (sym c.before.is-group.ensures ∙ not-true _ c.if1.true)
+returns : tie.Need-returns-then-not-is_group
+returns c = rw (sym c.is_group.ensures ∙ c.if-not-is_group.true)
 
-returns-2 : tie.Need-returns-2
+returns-2 : tie.Need-returns-then-is_set
 returns-2 c =
-    let e = c.before.before.before in
-    rw (sym e.before.is-group.ensures ∙ not-false _ e.if1.false, sym c.before.is_set.ensures ∙ c.if2.true)
+    let e = c in
+    rw (sym e.is_group.ensures ∙ e.if-not-is_group.false, sym c.is_set.ensures ∙ c.if-is_set.true)
 
-returns-3 : tie.Need-returns-3
+returns-3 : tie.Need-returns
 returns-3 c =
-    let f = c.before.before in
-    let e = f.before.before.before in
-    let w = e.before.before.before.before.args.words.now in
-    rw (sym e.before.is-group.ensures ∙ not-false _ e.if1.false, sym f.before.is_set.ensures ∙ f.if2.false)
-    (c.in_table.ensures ∙ ap (λ (h : ℕ). in_table (registers_in w).receiving.table h) c.before.hash-of.ensures.0)
+    let f = c in
+    let e = c in
+    let w = e.args.words.now in
+    rw (sym e.is_group.ensures ∙ e.if-not-is_group.false, sym f.is_set.ensures ∙ f.if-is_set.false)
+    (c.in_table.ensures ∙ ap (λ (h : ℕ). in_table (registers_in w).receiving.table h) c.hash_of.ensures.0)
 
-pub is-wanted-group-spec : {M : Type 1} → statement M
-is-wanted-group-spec =
+pub is_wanted_group_spec : {M : Type 1} → statement M
+is_wanted_group_spec =
     tie.close
     (tie.spec
     (λ c κs. search rules)

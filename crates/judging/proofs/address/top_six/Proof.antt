@@ -9,8 +9,8 @@ use Rattle.judging.proofs.address.top_six.Tie as tie
 returns : tie.Need-returns
 returns c = (sym (top_six c.args.r), omega arith)
 
-pub top-six-spec : {M : Type 1} → statement M
-top-six-spec =
+pub top_six_spec : {M : Type 1} → statement M
+top_six_spec =
     tie.close
     (tie.spec
     (λ c. search rules)

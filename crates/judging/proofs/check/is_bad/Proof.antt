@@ -15,13 +15,13 @@ use Rattle.judging.proofs.check.is_bad.Tie as tie
 returns : tie.Need-returns
 unfolding bad_crc
 returns c =
-    let f = c.before.before in
-    let frame = f.before.before.before.args.frame.now in
+    let f = c in
+    let frame = f.args.frame.now in
     let n = length frame - 4 in
-    ap not (c.is_number.ensures ∙ ap₂ (λ (l : List ℕ) (x : ℕ). same_bytes l (four_bytes x)) (take_all (length frame - n) (drop n frame) (omega (arith, length-drop n frame))) f.fcs.ensures)
+    ap not (c.is_number.ensures ∙ ap₂ (λ (l : List ℕ) (x : ℕ). same_bytes l (four_bytes x)) (take_all (length frame - n) (drop n frame) (omega (arith, length-drop n frame))) f.fcs-fcs.ensures)
 
-pub is-bad-spec : {M : Type 1} → statement M
-is-bad-spec =
+pub is_bad_spec : {M : Type 1} → statement M
+is_bad_spec =
     tie.close
     (tie.spec
     (λ c. search rules)

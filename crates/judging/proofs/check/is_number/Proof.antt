@@ -6,21 +6,21 @@ use Rattle.judging.proofs.Places.{four_bytes_lem}
 use Rattle.judging.proofs.check.is_number.Statement.{statement}
 use Rattle.judging.proofs.check.is_number.Tie as tie
 
-returns : tie.Need-returns
+returns : tie.Need-returns-then-not-is_pair
 returns c =
-    let s = c.before.before.before.before.before in
+    let s = c in
     let a = s.args in
-    rw (four_bytes_lem a.bytes.now a.x (search rules) s.requires, sym c.before.is-pair.ensures ∙ not-true _ c.if1.true)
+    rw (four_bytes_lem a.bytes.now a.x (search rules) s.requires, sym c.is_pair.ensures ∙ c.if-not-is_pair.true)
 
-returns-2 : tie.Need-returns-2
+returns-2 : tie.Need-returns
 returns-2 c =
-    let e = c.before.before.before in
-    let s = e.before.before.before.before.before in
+    let e = c in
+    let s = c in
     let a = s.args in
-    rw (four_bytes_lem a.bytes.now a.x (search rules) s.requires, sym e.before.is-pair.ensures ∙ not-false _ e.if1.false) c.is-pair2.ensures
+    rw (four_bytes_lem a.bytes.now a.x (search rules) s.requires, sym e.is_pair.ensures ∙ e.if-not-is_pair.false) c.is_pair-2.ensures
 
-pub is-number-spec : {M : Type 1} → statement M
-is-number-spec =
+pub is_number_spec : {M : Type 1} → statement M
+is_number_spec =
     tie.close
     (tie.spec
     (λ c. search rules)

@@ -16,15 +16,15 @@ at_all : (a : Bool) → a ≡ a && not false
 at_all true = refl
 at_all false = refl
 
-returns : tie.Need-returns
+returns : tie.Need-returns-then-is_set
 unfolding dropped
 returns c =
-    let s = c.before.before.before in
-    rw (sym c.before.is_set.ensures ∙ c.if1.true) (never (bad_crc s.args.frame.now || s.args.alignment || ltb (length s.args.frame.now) 64))
+    let s = c in
+    rw (sym c.is_set.ensures ∙ c.if-is_set.true) (never (bad_crc s.args.frame.now || s.args.alignment || ltb (length s.args.frame.now) 64))
 
-returns-2 : tie.Need-returns-2
+returns-2 : tie.Need-returns
 unfolding dropped
-returns-2 c = rw (sym c.before.before.is_set.ensures ∙ c.before.if1.false, ← c.is-flawed.ensures) (at_all _)
+returns-2 c = rw (sym c.is_set.ensures ∙ c.if-is_set.false, ← c.is_flawed.ensures) (at_all _)
 
-pub is-dropped-spec : {M : Type 1} → statement M
-is-dropped-spec = tie.close (tie.spec (λ c κs. search rules) returns (λ c κs. search rules) returns-2)
+pub is_dropped_spec : {M : Type 1} → statement M
+is_dropped_spec = tie.close (tie.spec (λ c κs. search rules) returns (λ c κs. search rules) returns-2)

@@ -20,14 +20,14 @@ or-first : (a : Bool) → a ≡ a || false || false
 or-first true = refl
 or-first false = refl
 
-returns : tie.Need-returns
-returns c = rw c.if1.true (or-second (bad_crc c.before.before.args.frame.now) _)
+returns : tie.Need-returns-then-alignment
+returns c = rw c.if-alignment.true (or-second (bad_crc c.args.frame.now) _)
 
-returns-2 : tie.Need-returns-2
-returns-2 c = rw (c.before.if1.false, lt-ltb _ _ c.if2.true) (or-third (bad_crc c.before.before.before.args.frame.now))
+returns-2 : tie.Need-returns-then-frame-lt-SHORTEST
+returns-2 c = rw (c.if-alignment.false, lt-ltb _ _ c.if-frame-lt-SHORTEST.true) (or-third (bad_crc c.args.frame.now))
 
-returns-3 : tie.Need-returns-3
-returns-3 c = rw (c.before.before.if1.false, le-ltb _ _ c.before.if2.false, ← c.is-bad.ensures) (or-first _)
+returns-3 : tie.Need-returns
+returns-3 c = rw (c.if-alignment.false, le-ltb _ _ c.if-frame-lt-SHORTEST.false, ← c.is_bad.ensures) (or-first _)
 
-pub is-flawed-spec : {M : Type 1} → statement M
-is-flawed-spec = tie.close (tie.spec returns returns-2 (λ c κs. search rules) returns-3)
+pub is_flawed_spec : {M : Type 1} → statement M
+is_flawed_spec = tie.close (tie.spec returns returns-2 (λ c κs. search rules) returns-3)

@@ -12,30 +12,30 @@ use Rattle.judging.specs.Frames.{with_rcr, needed_by}
 use Rattle.judging.proofs.judge.is_full.Statement.{statement}
 use Rattle.judging.proofs.judge.is_full.Tie as tie
 
-data-few : (d : tie.After-data-length) → d.data-length.result ≤ 1532
+data-few : (d : tie.After-data_length) → d.data_length.result ≤ 1532
 data-few d =
-    let s = d.before.before.before in
-    omega (arith, d.data-length.ensures, data_short (with_rcr (word s.args.words.now 2)) s.args.len, s.requires.2)
+    let s = d in
+    omega (arith, d.data_length.ensures, data_short (with_rcr (word s.args.words.now 2)) s.args.len, s.requires.2)
 
-is-need : (p : tie.After-pages-for) → let s = p.before.before.before.before in p.pages-for.result ≡ needed (registers_in s.args.words.now) s.args.len
+is-need : (p : tie.After-pages_for-need) → let s = p in p.pages_for-need.result ≡ needed (registers_in s.args.words.now) s.args.len
 is-need p =
-    let s = p.before.before.before.before in
-    needed_by (registers_in s.args.words.now) _ _ _ p.before.data-length.ensures p.pages-for.ensures
+    let s = p in
+    needed_by (registers_in s.args.words.now) _ _ _ p.data_length.ensures p.pages_for-need.ensures
 
-add-result : tie.Need-overflow-add-result
+add-result : tie.Need-overflow_add-result
 add-result c =
     let p = c.before.before in
-    let s = p.before.before.before.before in
+    let s = p in
     record { fits = omega (arith, is-need p, needs_seven (registers_in s.args.words.now) s.args.len s.requires.2) }
 
 returns : tie.Need-returns
 returns c =
     let p = c.before.before in
-    let s = p.before.before.before.before in
-    ap₂ (λ (x y : ℕ). ltb x (y + word s.args.words.now 5 % 256)) c.before.free-count.ensures (is-need p)
+    let s = c in
+    ap₂ (λ (x y : ℕ). ltb x (y + word s.args.words.now 5 % 256)) c.free_count.ensures (is-need p)
 
-pub is-full-spec : {M : Type 1} → statement M
-is-full-spec =
+pub is_full_spec : {M : Type 1} → statement M
+is_full_spec =
     tie.close
     (tie.spec
     (λ c. search rules)

@@ -14,60 +14,60 @@ use Rattle.judging.proofs.Facts.{dropped_by, judge_is}
 use Rattle.judging.proofs.judge.judged.Statement.{statement}
 use Rattle.judging.proofs.judge.judged.Tie as tie
 
-abbrev start : tie.After-is-set → tie.Start
+abbrev start : tie.After-is_set → tie.Start
 start t = t.before.before.before.before
 
 abbrev the_frame : tie.Start → Frame
 the_frame s = frame_of s.args.frame.now s.args.alignment
 
 -- the tests that went on, from the first
-enabled : (e : tie.Else1) → bit 8 (word (start e.before).args.words.now 2) ≡ true
-enabled e = sym e.before.is_set.ensures ∙ not-false _ e.if1.false
+enabled : (e : tie.Else-not-is_set) → bit 8 (word (start e.before).args.words.now 2) ≡ true
+enabled e = sym e.is_set.ensures ∙ e.if-not-is_set.false
 
-welcome : (e : tie.Else2) → let s = start e.before.before.before.before in accepted (registers_in s.args.words.now) (take 6 s.args.frame.now) ≡ true
-welcome e = sym e.before.is-accepted.ensures ∙ not-false _ e.if2.false
+welcome : (e : tie.Else-not-is_accepted) → let s = start e.before.before.before.before in accepted (registers_in s.args.words.now) (take 6 s.args.frame.now) ≡ true
+welcome e = sym e.is_accepted.ensures ∙ e.if-not-is_accepted.false
 
-kept : (e : tie.Else4) → let s = start e.before.before.before.before.before.before.before.before in dropped (registers_in s.args.words.now) (the_frame s) ≡ false
+kept : (e : tie.Else-is_dropped) → let s = start e.before.before.before.before.before.before.before.before in dropped (registers_in s.args.words.now) (the_frame s) ≡ false
 kept e =
     let s = start e.before.before.before.before.before.before.before.before in
-    dropped_by (registers_in s.args.words.now) (the_frame s) ∙ sym e.before.is-dropped.ensures ∙ e.if4.false
+    dropped_by (registers_in s.args.words.now) (the_frame s) ∙ sym e.is_dropped.ensures ∙ e.if-is_dropped.false
 
-returns : tie.Need-returns
-returns c = sym (judge_is _ _ _ false _ _ _ _ (sym c.before.is_set.ensures ∙ not-true _ c.if1.true) refl refl refl refl)
+returns : tie.Need-returns-then-not-is_set
+returns c = sym (judge_is _ _ _ false _ _ _ _ (sym c.is_set.ensures ∙ c.if-not-is_set.true) refl refl refl refl)
 
-returns-2 : tie.Need-returns-2
-returns-2 c = sym (judge_is _ _ _ true false _ _ _ (enabled c.before.before.before) (sym c.before.is-accepted.ensures ∙ not-true _ c.if2.true) refl refl refl)
+returns-2 : tie.Need-returns-then-not-is_accepted
+returns-2 c = sym (judge_is _ _ _ true false _ _ _ (enabled c.before.before.before) (sym c.is_accepted.ensures ∙ c.if-not-is_accepted.true) refl refl refl)
 
-returns-3 : tie.Need-returns-3
+returns-3 : tie.Need-returns-then-len-gt-LONGEST_STORED
 returns-3 c =
     let f = c.before in
-    sym (judge_is _ _ _ true true true _ _ (enabled f.before.before.before) (welcome f) (lt-ltb _ _ c.if3.true) refl refl)
+    sym (judge_is _ _ _ true true true _ _ (enabled c.before.before.before.before) (welcome f) (lt-ltb _ _ c.if-len-gt-LONGEST_STORED.true) refl refl)
 
-returns-4 : tie.Need-returns-4
+returns-4 : tie.Need-returns-then-is_dropped
 returns-4 c =
-    let g = c.before.before.before in
-    let f = g.before in
-    let e = f.before.before.before in
-    let s = start e.before in
-    sym (judge_is _ _ _ true true false true _ (enabled e) (welcome f) (le-ltb _ _ g.if3.false) (dropped_by (registers_in s.args.words.now) (the_frame s) ∙ sym c.before.is-dropped.ensures ∙ c.if4.true) refl)
+    let g = c in
+    let f = c.before.before.before.before in
+    let e = c.before.before.before.before.before.before.before in
+    let s = start c.before.before.before.before.before.before.before.before in
+    sym (judge_is _ _ _ true true false true _ (enabled e) (welcome f) (le-ltb _ _ g.if-len-gt-LONGEST_STORED.false) (dropped_by (registers_in s.args.words.now) (the_frame s) ∙ sym c.is_dropped.ensures ∙ c.if-is_dropped.true) refl)
 
 -- the last test is whether there is room
-by-room : (k : tie.After-is-full) (b : Bool) → k.is-full.result ≡ b → let s = start k.before.before.before.before.before.before.before.before.before in
+by-room : (k : tie.After-is_full) (b : Bool) → k.is_full.result ≡ b → let s = start k.before.before.before.before.before.before.before.before.before in
     judge (registers_in s.args.words.now) (word s.args.words.now 4 / 256) (the_frame s) ≡ cond b no_room stored
 by-room k b e =
     let d = k.before in
-    let g = d.before.before.before in
-    let f = g.before in
-    judge_is _ _ _ true true false false b (enabled f.before.before.before) (welcome f) (le-ltb _ _ g.if3.false) (kept d) (sym k.is-full.ensures ∙ e)
+    let g = k in
+    let f = k.before.before.before.before.before in
+    judge_is _ _ _ true true false false b (enabled k.before.before.before.before.before.before.before.before) (welcome f) (le-ltb _ _ g.if-len-gt-LONGEST_STORED.false) (kept d) (sym k.is_full.ensures ∙ e)
 
-returns-5 : tie.Need-returns-5
-returns-5 c = sym (by-room c.before true c.if5.true)
+returns-5 : tie.Need-returns-then-is_full
+returns-5 c = sym (by-room c.before true c.if-is_full.true)
 
-returns-6 : tie.Need-returns-6
-returns-6 c = sym (by-room c.before false c.if5.false)
+returns-6 : tie.Need-returns
+returns-6 c = sym (by-room c.before false c.if-is_full.false)
 
-pub judged-spec : {M : Type 1} → statement M
-judged-spec =
+pub judged_spec : {M : Type 1} → statement M
+judged_spec =
     tie.close
     (tie.spec
     (λ c. search rules)

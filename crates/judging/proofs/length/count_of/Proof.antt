@@ -5,16 +5,16 @@ use Rattle.rules.specs.Receive.{count_of}
 use Rattle.judging.proofs.length.count_of.Statement.{statement}
 use Rattle.judging.proofs.length.count_of.Tie as tie
 
-returns : tie.Need-returns
+returns : tie.Need-returns-then-is_odd
 unfolding count_of
-returns c = rw (sym c.before.is_odd.ensures ∙ c.if1.true)
+returns c = rw (sym c.is_odd.ensures ∙ c.if-is_odd.true)
 
-returns-2 : tie.Need-returns-2
+returns-2 : tie.Need-returns
 unfolding count_of
-returns-2 c = rw (sym c.before.is_odd.ensures ∙ c.if1.false)
+returns-2 c = rw (sym c.is_odd.ensures ∙ c.if-is_odd.false)
 
-pub count-of-spec : {M : Type 1} → statement M
-count-of-spec =
+pub count_of_spec : {M : Type 1} → statement M
+count_of_spec =
     tie.close
     (tie.spec
     (λ c κs. search rules)

@@ -8,5 +8,5 @@ returns : tie.Need-returns
 unfolding pages_for
 returns c = rw c.count_of.ensures
 
-pub pages-for-spec : {M : Type 1} → statement M
-pages-for-spec = tie.close (tie.spec (λ c κs. search rules) (λ c. search rules) (λ c. search rules) returns)
+pub pages_for_spec : {M : Type 1} → statement M
+pages_for_spec = tie.close (tie.spec (λ c κs. search rules) (λ c. search rules) (λ c. search rules) returns)

@@ -11,22 +11,22 @@ use Rattle.judging.proofs.length.status_of.Tie as tie
 returns : tie.Need-returns
 unfolding frame_status
 returns c =
-    let odd = c.before.before.before in
-    let bad = odd.before.before in
-    let broad = bad.before.before in
+    let odd = c in
+    let bad = c in
+    let broad = c in
     omega (
       arith,
-      c.flag-of6.ensures.0,
-      broad.flag-of.ensures.0 ∙ ap flag broad.before.is-broadcast.ensures,
-      bad.flag-of2.ensures.0 ∙ ap flag bad.before.is-stored-bad.ensures,
-      odd.flag-of3.ensures.0 ∙ ap flag odd.before.is_odd.ensures,
-      c.before.before.flag-of4.ensures.0,
-      c.before.flag-of5.ensures.0,
-      broad.before.before.before.group-bits.ensures.0,
+      c.flag_of.ensures.0,
+      broad.flag_of-broadcast.ensures.0 ∙ ap flag broad.is_broadcast.ensures,
+      bad.flag_of-bad.ensures.0 ∙ ap flag bad.is_stored_bad.ensures,
+      odd.flag_of-odd.ensures.0 ∙ ap flag odd.is_odd.ensures,
+      c.flag_of-long.ensures.0,
+      c.flag_of-short.ensures.0,
+      broad.group_bits-group.ensures.0,
     )
 
-pub status-of-spec : {M : Type 1} → statement M
-status-of-spec =
+pub status_of_spec : {M : Type 1} → statement M
+status_of_spec =
     tie.close
     (tie.spec
     (λ c. search rules)

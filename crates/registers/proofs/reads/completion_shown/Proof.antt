@@ -7,16 +7,16 @@ use borrow.Author.Rules.{rules}
 use Rattle.registers.proofs.reads.completion_shown.Statement.{statement}
 use Rattle.registers.proofs.reads.completion_shown.Tie as tie
 
-returns : tie.Need-returns
-returns c = let s = c.before.before.before.before in shows_none _ _ s.requires.1.completion.many c.if1.true
+returns : tie.Need-returns-then-words-eq0
+returns c = let s = c in shows_none _ _ s.requires.1.completion.many c.if-words-eq0.true
 
-returns-2 : tie.Need-returns-2
+returns-2 : tie.Need-returns
 returns-2 c =
-    let s = c.before.before.before.before.before in
+    let s = c in
     let h = s.requires.1 in
-    let some = c.before.if1.false in
-    c.completion-head.ensures ∙ head_told 2 _ s.args.queues.now h.completion (omega arith) ∙ shows_head _ _ h.completion.many some
+    let some = c.if-words-eq0.false in
+    c.completion_head-packet.ensures ∙ head_told 2 _ s.args.queues.now h.completion (omega arith) ∙ shows_head _ _ h.completion.many some
 
-pub completion-shown-spec : {M : Type 1} → statement M
-completion-shown-spec =
+pub completion_shown_spec : {M : Type 1} → statement M
+completion_shown_spec =
     tie.close (tie.spec (λ c. search rules) returns (λ c κs. search rules) returns-2)

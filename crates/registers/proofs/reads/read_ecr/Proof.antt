@@ -11,12 +11,12 @@ use Rattle.registers.proofs.reads.read_ecr.Tie as tie
 
 returns : tie.Need-returns
 returns c =
-    let s = c.before.before.before.before in
+    let s = c in
     let w = s.args.words.now in
-    (refl, (λ p. reads_ecr p _ w s.requires (c.with-clear.ensures ∙ ap (clear_bit 12) (get_or-set_other w 3 1 0 0 (λ e. absurd (omega arith)))), simp length-set s.requires.whole))
+    (refl, (λ p. reads_ecr p _ w s.requires (c.with_clear.ensures ∙ ap (clear_bit 12) (get_or-set_other w 3 1 0 0 (λ e. absurd (omega arith)))), simp length-set s.requires.whole))
 
-pub read-ecr-spec : {M : Type 1} → statement M
-read-ecr-spec =
+pub read_ecr_spec : {M : Type 1} → statement M
+read_ecr_spec =
     tie.close
     (tie.spec
     (λ c. search rules)

@@ -9,12 +9,12 @@ use Rattle.registers.proofs.words.forgotten.Tie as tie
 returns : tie.Need-returns
 unfolding forgotten
 returns c =
-    let low = c.before.before.before.before.with-clear2.ensures ∙ ap (clear_bit 4) c.before.before.before.before.before.with-clear.ensures in
-    let middle = c.before.before.with-clear4.ensures ∙ ap (clear_bit 9) (c.before.before.before.with-clear3.ensures ∙ ap (clear_bit 5) low) in
-    c.with-clear6.ensures ∙ ap (clear_bit 15) (c.before.with-clear5.ensures ∙ ap (clear_bit 10) middle)
+    let low = c.with_clear-a.ensures ∙ ap (clear_bit 4) c.with_clear.ensures in
+    let middle = c.with_clear-b.ensures ∙ ap (clear_bit 9) (c.with_clear-2.ensures ∙ ap (clear_bit 5) low) in
+    c.with_clear-4.ensures ∙ ap (clear_bit 15) (c.with_clear-3.ensures ∙ ap (clear_bit 10) middle)
 
-pub forgotten-spec : {M : Type 1} → statement M
-forgotten-spec =
+pub forgotten_spec : {M : Type 1} → statement M
+forgotten_spec =
     tie.close
     (tie.spec
     (λ c κs. search rules)

@@ -6,14 +6,14 @@ use borrow.Author.Rules.{rules}
 use Rattle.registers.proofs.writes.write_bank.Statement.{statement}
 use Rattle.registers.proofs.writes.write_bank.Tie as tie
 
-returns : tie.Need-returns
-returns c = bank_high_lem _ _ _ c.before.before.before.requires.0 (sym c.before.is-high.ensures ∙ c.if1.true)
+returns : tie.Need-returns-then-is_high
+returns c = bank_high_lem _ _ _ c.requires.0 (sym c.is_high.ensures ∙ c.if-is_high.true)
 
-returns-2 : tie.Need-returns-2
+returns-2 : tie.Need-returns
 returns-2 c =
-    let k = c.before.before.before.requires.0 in
-    writes_bank _ _ (sym c.before.is-high.ensures ∙ c.if1.false) _ _ k (omega (arith, k.fixed.bank_high))
+    let k = c.requires.0 in
+    writes_bank _ _ (sym c.is_high.ensures ∙ c.if-is_high.false) _ _ k (omega (arith, k.fixed.bank_high))
 
-pub write-bank-spec : {M : Type 1} → statement M
-write-bank-spec =
+pub write_bank_spec : {M : Type 1} → statement M
+write_bank_spec =
     tie.close (tie.spec (λ c κs. search rules) returns (λ c. search rules) (λ c. search rules) (λ c. search rules) returns-2)

@@ -5,16 +5,16 @@ use borrow.Author.Rules.{rules}
 use Rattle.registers.proofs.writes.write_packet.Statement.{statement}
 use Rattle.registers.proofs.writes.write_packet.Tie as tie
 
-returns : tie.Need-returns
-returns c = packet_high _ _ _ c.before.before.before.requires.0 (sym c.before.is-high.ensures ∙ c.if1.true)
+returns : tie.Need-returns-then-is_high
+returns c = packet_high _ _ _ c.requires.0 (sym c.is_high.ensures ∙ c.if-is_high.true)
 
-returns-2 : tie.Need-returns-2
+returns-2 : tie.Need-returns
 returns-2 c =
-    let d = c.before.before in
-    writes_packet _ _ (sym d.before.is-high.ensures ∙ d.if1.false) _ _ d.before.before.before.requires.0 c.low-set.ensures
+    let d = c in
+    writes_packet _ _ (sym d.is_high.ensures ∙ d.if-is_high.false) _ _ d.requires.0 c.low_set.ensures
 
-pub write-packet-spec : {M : Type 1} → statement M
-write-packet-spec =
+pub write_packet_spec : {M : Type 1} → statement M
+write_packet_spec =
     tie.close
     (tie.spec
     (λ c κs. search rules)

@@ -13,14 +13,14 @@ use Rattle.registers.proofs.writes.write_tcr.Tie as tie
 
 returns : tie.Need-returns
 returns c =
-    let s = c.before.before.before.before.before in
+    let s = c in
     let w = s.args.words.now in
-    let new = c.before.before.merged.result in
-    writes_tcr _ _ _ _ w s.requires c.before.before.merged.ensures
-    (c.ephsr-after.ensures ∙ ap (λ (e : ℕ). cond (bit 0 new) (forgotten e) e) (get_or-set_other w 0 1 new 0 (λ e. absurd (omega arith))))
+    let new = c.merged-tcr.result in
+    writes_tcr _ _ _ _ w s.requires c.merged-tcr.ensures
+    (c.ephsr_after.ensures ∙ ap (λ (e : ℕ). cond (bit 0 new) (forgotten e) e) (get_or-set_other w 0 1 new 0 (λ e. absurd (omega arith))))
 
-pub write-tcr-spec : {M : Type 1} → statement M
-write-tcr-spec =
+pub write_tcr_spec : {M : Type 1} → statement M
+write_tcr_spec =
     tie.close
     (tie.spec
     (λ c. search rules)

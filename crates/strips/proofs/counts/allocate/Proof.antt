@@ -13,21 +13,21 @@ use Rattle.strips.proofs.counts.allocate.Tie as tie
 
 grant-requires : tie.Need-grant-requires
 grant-requires c κs =
-    let first = c.before.before in
-    let p = first.before.before.before.before.requires in
-    (p.0, p.1, p.2, first.lowest-unallocated.ensures, p.3, p.4, p.5)
+    let first = c in
+    let p = first.requires in
+    (p.0, p.1, p.2, first.lowest_unallocated-packet.ensures, p.3, p.4, p.5)
 
 returns : tie.Need-returns
 returns c =
-    let given = c.before.before.before.before.before.before.before.before in
-    let first = given.before.before.before in
-    let s = first.before.before.before.before in
+    let given = c in
+    let first = c in
+    let s = c in
     let w = s.args.words.now in
     let counts = s.args.counts.now in
     let ls = strips_from 0 counts in
-    alters_as (alters_sets (repages_alters given.grant.ensures) c.before.before.give-result.ensures)
+    alters_as (alters_sets (repages_alters given.grant.ensures) c.give_result.ensures)
     (λ q mem. ap (λ (j : ℕ). in_registers (λ r. set_waiting 0 (set_result j r)) (in_pool (set_pages (set ls j (take s.args.need (free_for strips ls)))) (view_of strips w counts q mem)))
-    first.lowest-unallocated.ensures)
+    first.lowest_unallocated-packet.ensures)
 
 pub allocate_spec : {M : Type 1} → statement M
-allocate_spec = tie.close (tie.spec (λ c κs. part_few c.before.before.before.requires.1.part) grant-requires (λ c κs. search rules) (λ c. search rules) (λ c. search rules) returns)
+allocate_spec = tie.close (tie.spec (λ c κs. part_few c.requires.1.part) grant-requires (λ c κs. search rules) (λ c. search rules) (λ c. search rules) returns)

@@ -13,9 +13,9 @@ use Rattle.strips.proofs.counts.give_back.Tie as tie
 
 settle-requires : tie.Need-settle-requires
 settle-requires c κs =
-    let f = c.before.before.before.before.before.before in
-    let s = f.before.before.before.before.before in
-    let free = f.make-free.ensures in
+    let f = c in
+    let s = c in
+    let free = f.make_free.ensures in
     let ls = strips_from 0 s.args.counts.now in
     let k = s.args.packet.0 in
     let good = back_lists (length s.args.counts.now) ls k s.requires.3 strips s.requires.2 in
@@ -24,8 +24,8 @@ settle-requires c κs =
 
 returns : tie.Need-returns
 returns c =
-    let settled = c.before.before.before.before in
-    alters_both (repages_alters settled.before.before.before.before.before.before.before.make-free.ensures) settled.settle.ensures
+    let settled = c in
+    alters_both (repages_alters settled.make_free.ensures) settled.settle.ensures
 
-pub give-back-spec : {M : Type 1} → statement M
-give-back-spec = tie.close (tie.spec (λ c κs. search rules) settle-requires (λ c. search rules) (λ c. search rules) returns)
+pub give_back_spec : {M : Type 1} → statement M
+give_back_spec = tie.close (tie.spec (λ c κs. search rules) settle-requires (λ c. search rules) (λ c. search rules) returns)

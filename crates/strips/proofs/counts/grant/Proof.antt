@@ -38,43 +38,43 @@ module _ (s : tie.Start) where
   given = take need (free_for strips ls)
 
   first : first_empty ls < length counts
-  first = unallocated strips (length counts) ls s.pre.2 (omega (arith, s.pre.4, s.pre.6))
+  first = unallocated strips (length counts) ls s.requires.2 (omega (arith, s.requires.4, s.requires.6))
 
   number : k < length counts
-  number = omega (arith, first, s.pre.3)
+  number = omega (arith, first, s.requires.3)
 
   none : get_or ls k [] ≡ []
-  none = ap (λ (j : ℕ). get_or ls j []) s.pre.3 ∙ first_empty_lem ls
+  none = ap (λ (j : ℕ). get_or ls j []) s.requires.3 ∙ first_empty_lem ls
 
   after : GoodLists strips (length counts) (set ls k given)
-  after = subst (λ (j : ℕ). GoodLists strips (length counts) (set ls j given)) (sym s.pre.3) (granted_lists (length counts) ls need s.pre.5 strips s.pre.2 s.pre.6 first)
+  after = subst (λ (j : ℕ). GoodLists strips (length counts) (set ls j given)) (sym s.requires.3) (granted_lists (length counts) ls need s.requires.5 strips s.requires.2 s.requires.6 first)
 
   -- So many pages from the first of its strip on are those.
   stored : strips_from 0 (set counts k need) ≡ set ls k given
   stored =
       strips_set counts k need
-      ∙ ap (set ls k) (ap (λ (j : ℕ). up_from (8 * j) need) s.pre.3 ∙ sym (take_up (8 * first_empty ls) need (length ls - total ls) (omega (arith, s.pre.6, length_up (8 * first_empty ls) (length ls - total ls)))))
+      ∙ ap (set ls k) (ap (λ (j : ℕ). up_from (8 * j) need) s.requires.3 ∙ sym (take_up (8 * first_empty ls) need (length ls - total ls) (omega (arith, s.requires.6, length_up (8 * first_empty ls) (length ls - total ls)))))
 
 fewer-requires : tie.Need-fewer-requires
 unfolding word_of
 fewer-requires c κs =
-    let p = c.before.before.before.requires in
+    let p = c.requires in
     omega (arith, p.1.free, p.6)
 
-slice-write-counts : tie.Need-slice-write-counts
+slice-write-counts : tie.Need-bounds-counts-packet
 slice-write-counts c = number c.before.before.before.before.before
 
 returns : tie.Need-returns
 unfolding word_of
 returns c =
-    let f = c.before in
-    let s = f.before.before.before.before in
+    let f = c in
+    let s = c.before.before.before.before.before in
     let p = s.requires in
     repaged (λ ls. set ls (k s) (take (need s) (free_for strips ls))) (k s) (given s) _ _ _ _ _ (store_mir _ s.args.words.now p.0) (number s) p.2 (after s) p.1 (counts_small (set (counts s) (k s) (need s)) (stored s) (after s)) (stored s) refl
     (omega (arith, f.fewer.ensures, p.1.free, p.6, length-take-le (need s) (free_for strips (ls s)) p.6, ap (λ (l : List ℕ). length l) (none s)))
 
-pub grant-spec : {M : Type 1} → statement M
-grant-spec =
+pub grant_spec : {M : Type 1} → statement M
+grant_spec =
     tie.close
     (tie.spec
     (λ c. search rules)

@@ -12,10 +12,10 @@ use Rattle.strips.proofs.counts.is_allocated.Tie as tie
 
 returns : tie.Need-returns
 returns c =
-    let a = c.before.before.args in
+    let a = c.args in
     let s = a.counts.now in
     let k = a.packet.0 in
-    ap (λ (n : ℕ). not (eqb n 0)) c.pages-of.ensures.0 ∙ sym (ap some? (strip_at s k) ∙ some_strip (8 * k) (get_or s k 0))
+    ap (λ (n : ℕ). not (eqb n 0)) c.pages_of.ensures.0 ∙ sym (ap some? (strip_at s k) ∙ some_strip (8 * k) (get_or s k 0))
 
-pub is-allocated-spec : {M : Type 1} → statement M
-is-allocated-spec = tie.close (tie.spec (λ c κs. search rules) returns)
+pub is_allocated_spec : {M : Type 1} → statement M
+is_allocated_spec = tie.close (tie.spec (λ c κs. search rules) returns)

@@ -23,39 +23,39 @@ first-none ([] ∷ ls) zero e = refl
 first-none ((p ∷ ps) ∷ ls) zero e = absurd (true≢false e)
 first-none (l ∷ ls) (suc k) e = first-none ls k e
 
-abbrev invariant-loop : tie.invariant-loop
+abbrev invariant-loop : tie.invariant-loop-number
 invariant-loop counts number₀ number = (number ≤ length counts) × (first_empty (strips_from 0 counts) ≡ first_empty (drop number (strips_from 0 counts)) + number)
 
-abbrev decreases-loop : tie.decreases-loop
+abbrev decreases-loop : tie.decreases-loop-number
 decreases-loop counts number₀ number = length counts - number
 
 -- A packet with pages is one of theirs.
-module _ (c : tie.Then1 invariant-loop decreases-loop) where
-  abbrev at : tie.At-loop invariant-loop decreases-loop
+module _ (c : tie.In-loop-number invariant-loop decreases-loop) where
+  abbrev at : tie.At-loop-number invariant-loop decreases-loop
   at = c.before.before
 
   abbrev ls : List (List ℕ)
-  ls = strips_from 0 at.before.before.args.counts.now
+  ls = strips_from 0 at.args.counts.now
 
-  has : some? (get_or ls at.loop.number []) ≡ true
-  has = sym c.before.is-allocated.ensures ∙ c.if1.true
+  has : some? (get_or ls at.loop-number.number []) ≡ true
+  has = sym c.is_allocated.ensures ∙ c.loop-number-test.true
 
-  in-range : at.loop.number < length ls
-  in-range = has_small ls at.loop.number has
+  in-range : at.loop-number.number < length ls
+  in-range = has_small ls at.loop-number.number has
 
-  below : at.loop.number < length at.before.before.args.counts.now
-  below = omega (arith, in-range, strips_length 0 at.before.before.args.counts.now)
+  below : at.loop-number.number < length at.args.counts.now
+  below = omega (arith, in-range, strips_length 0 at.args.counts.now)
 
-loop-again : tie.Need-loop-preserved invariant-loop decreases-loop
-loop-again c = (omega (arith, below c), omega (arith, (at c).loop.invariant.1, first_on (ls c) (at c).loop.number (in-range c) (has c)))
+loop-again : tie.Need-loop-number-preserved invariant-loop decreases-loop
+loop-again c = (omega (arith, below c), omega (arith, (at c).loop-number.invariant.1, first_on (ls c) (at c).loop-number.number (in-range c) (has c)))
 
 returns : tie.Need-returns invariant-loop decreases-loop
 returns c =
-    let a = c.before.before in
-    omega (arith, a.loop.invariant.1, first-none (strips_from 0 a.before.before.args.counts.now) a.loop.number (sym c.before.is-allocated.ensures ∙ c.if1.false))
+    let a = c in
+    omega (arith, a.loop-number.invariant.1, first-none (strips_from 0 a.args.counts.now) a.loop-number.number (sym c.is_allocated.ensures ∙ c.loop-number-test.false))
 
-pub lowest-unallocated-spec : {M : Type 1} → statement M
-lowest-unallocated-spec =
+pub lowest_unallocated_spec : {M : Type 1} → statement M
+lowest_unallocated_spec =
     tie.close
     (tie.spec
     invariant-loop

@@ -26,25 +26,25 @@ few n ls k number good =
 more-requires : tie.Need-more-requires
 unfolding word_of
 more-requires c κs =
-    let s = c.before.before.before.before.before in
+    let s = c in
     let p = s.requires in
-    omega (arith, c.pages-of.ensures.1, p.1.free, part_few p.1.part, few _ (strips_from 0 s.args.counts.now) s.args.packet.0 p.3 p.2)
+    omega (arith, c.pages_of.ensures.1, p.1.free, part_few p.1.part, few _ (strips_from 0 s.args.counts.now) s.args.packet.0 p.3 p.2)
 
 returns : tie.Need-returns
 unfolding up_from
 returns c =
-    let m = c.before in
-    let n = m.before in
-    let s = n.before.before.before.before.before in
+    let m = c in
+    let n = c in
+    let s = c in
     let k = s.args.packet.0 in
     let p = s.requires in
     let after = back_lists _ (strips_from 0 s.args.counts.now) k p.3 strips p.2 in
     let stored = strips_set s.args.counts.now k 0 in
     repaged (λ ls. set ls k []) k [] _ _ _ _ _ (store_mir _ s.args.words.now p.0) p.3 p.2 after p.1 (counts_small (set s.args.counts.now k 0) stored after) stored refl
-    (omega (arith, m.more.ensures, n.pages-of.ensures.1))
+    (omega (arith, m.more.ensures, n.pages_of.ensures.1))
 
-pub make-free-spec : {M : Type 1} → statement M
-make-free-spec =
+pub make_free_spec : {M : Type 1} → statement M
+make_free_spec =
     tie.close
     (tie.spec
     (λ c. search rules)

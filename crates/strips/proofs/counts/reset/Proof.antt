@@ -29,11 +29,11 @@ none n {s' = s'} part r small pages =
 returns : tie.Need-returns
 returns c =
     let n = c.before.before in
-    let e = n.before.before.before.before in
-    let all = e.before.before.before.before in
-    let s = all.before.before.before.before.before in
-    none (length s.args.counts.now) s.requires.1 n.store_none.ensures (λ i. omega (arith, e.before.before.slice-known4.given i)) all.cleared.ensures
+    let e = n in
+    let all = n in
+    let s = n in
+    none (length s.args.counts.now) s.requires.1 n.store_none.ensures (λ i. omega (arith, e.slice_known-4-1.given i)) all.cleared.ensures
     (e.empty.ensures ∙ ap (λ (n : ℕ). replicate n 0) s.requires.2)
 
-pub reset-spec : {M : Type 1} → statement M
-reset-spec = tie.close (tie.spec (λ c. record { fits = omega (arith, part_few c.before.before.before.requires.1) }) (λ c κs. search rules) (λ c κs. search rules) (λ c κs. search rules) (λ c. search rules) (λ c. search rules) (λ c. search rules) returns)
+pub reset_spec : {M : Type 1} → statement M
+reset_spec = tie.close (tie.spec (λ c. record { fits = omega (arith, part_few c.requires.1) }) (λ c κs. search rules) (λ c κs. search rules) (λ c κs. search rules) (λ c. search rules) (λ c. search rules) (λ c. search rules) returns)

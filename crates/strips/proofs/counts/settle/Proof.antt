@@ -15,16 +15,16 @@ use Rattle.strips.proofs.counts.settle.Tie as tie
 counted : (s : tie.Start) → let ls = strips_from 0 s.args.counts.now in word s.args.words.now 4 / 256 ≡ length (free_for strips ls)
 counted s = free_told s.args.words.now s.args.counts.now s.requires.1
 
-returns : tie.Need-returns
+returns : tie.Need-returns-then-need-eq0
 returns c =
-    let s = c.before.before.before.before in
-    record { chip = λ q mem. sym (settle_none (view_of strips s.args.words.now s.args.counts.now q mem) c.if1.true); still = refl; kept = s.requires.0; sets = s.requires.1 }
+    let s = c in
+    record { chip = λ q mem. sym (settle_none (view_of strips s.args.words.now s.args.counts.now q mem) c.if-need-eq0.true); still = refl; kept = s.requires.0; sets = s.requires.1 }
 
-returns-2 : tie.Need-returns-2
+returns-2 : tie.Need-returns-then-free_count-need
 returns-2 c =
-    let s = c.before.before.before.before.before.before.before in
+    let s = c.before.before.before.before.before.before in
     record {
-      chip = λ q mem. sym (settle_later (view_of strips s.args.words.now s.args.counts.now q mem) (omega (arith, c.if2.true, c.before.free-count.ensures, counted s)));
+      chip = λ q mem. sym (settle_later (view_of strips s.args.words.now s.args.counts.now q mem) (omega (arith, c.if-free_count-need.true, c.free_count.ensures, counted s)));
       still = refl;
       kept = s.requires.0;
       sets = s.requires.1;
@@ -32,23 +32,23 @@ returns-2 c =
 
 allocate-requires : tie.Need-allocate-requires
 allocate-requires c κs =
-    let enough = c.before.before in
-    let some = enough.before.before.before in
-    let s = some.before.before.before.before in
-    (s.requires.0, s.requires.1, s.requires.2, omega (arith, some.if1.false), s.requires.3, omega (arith, enough.if2.false, enough.before.free-count.ensures, counted s))
+    let enough = c in
+    let some = c in
+    let s = c.before.before.before.before.before.before.before.before in
+    (s.requires.0, s.requires.1, s.requires.2, omega (arith, some.if-need-eq0.false), s.requires.3, omega (arith, enough.if-free_count-need.false, enough.free_count.ensures, counted s))
 
-returns-3 : tie.Need-returns-3
+returns-3 : tie.Need-returns
 returns-3 c =
-    let granted = c.before.before.before.before in
-    let enough = granted.before.before.before in
-    let some = enough.before.before.before in
-    let s = some.before.before.before.before in
+    let granted = c in
+    let enough = c in
+    let some = c in
+    let s = c.before.before.before.before.before.before.before.before.before.before.before.before.before in
     alters_as granted.allocate.ensures
-    (λ q mem. sym (settle_now (view_of strips s.args.words.now s.args.counts.now q mem) (omega (arith, some.if1.false))
-    (omega (arith, enough.if2.false, enough.before.free-count.ensures, counted s))))
+    (λ q mem. sym (settle_now (view_of strips s.args.words.now s.args.counts.now q mem) (omega (arith, some.if-need-eq0.false))
+    (omega (arith, enough.if-free_count-need.false, enough.free_count.ensures, counted s))))
 
-pub settle-spec : {M : Type 1} → statement M
-settle-spec =
+pub settle_spec : {M : Type 1} → statement M
+settle_spec =
     tie.close
     (tie.spec
     (λ c. search rules)

@@ -16,7 +16,7 @@ use Rattle.strips.specs.Asked.{Asked, holds_asked, asked_holds}
 use Rattle.strips.proofs.order.well_formed.Statement.{statement}
 use Rattle.strips.proofs.order.well_formed.Tie as tie
 
-module _ (n : tie.After-size-in) where
+module _ (n : tie.After-size_in-size) where
   abbrev s : tie.Start
   s = n.before.before.before.before
 
@@ -31,85 +31,85 @@ module _ (n : tie.After-size-in) where
 
   -- how many packets it names
   abbrev size : ℕ
-  size = n.size_in.result
+  size = n.size_in-size.result
 
   small : Small counts
-  small i = omega (arith, n.before.before.shared-slice-known2.given i)
+  small i = omega (arith, n.shared_slice_known-2-1.given i)
 
   asked : HoldsOf strips w counts q → Asked size w counts q
-  asked h = subst (λ (m : ℕ). Asked m w counts q) (sym n.size_in.ensures) (holds_asked w counts q small h)
+  asked h = subst (λ (m : ℕ). Asked m w counts q) (sym n.size_in-size.ensures) (holds_asked w counts q small h)
 
   holds : Asked size w counts q → HoldsOf strips w counts q
-  holds a = asked_holds w counts q small s.pre.1 (subst (λ (m : ℕ). Asked m w counts q) n.size_in.ensures a)
+  holds a = asked_holds w counts q small s.requires.1 (subst (λ (m : ℕ). Asked m w counts q) n.size_in-size.ensures a)
 
-returns : tie.Need-returns
-returns c = refutes c.before.is_part.ensures (λ h. (asked c.before.before h).part) (not-true _ c.if1.true)
+returns : tie.Need-returns-then-not-is_part
+returns c = refutes c.is_part.ensures (λ h. (asked c.before.before h).part) (c.if-not-is_part.true)
 
 -- A part has so many, at most 24.
-part : (e : tie.Else1) → IsPart (size e.before.before)
-part e = e.before.is_part.ensures.sound (not-false _ e.if1.false)
+part : (e : tie.Else-not-is_part) → IsPart (size e.before.before)
+part e = e.is_part.ensures.sound (e.if-not-is_part.false)
 
-returns-2 : tie.Need-returns-2
-returns-2 c = refutes c.before.words-good.ensures (λ h. (asked c.before.before.before.before h).words) (not-true _ c.if2.true)
+returns-2 : tie.Need-returns-then-not-words_good
+returns-2 c = refutes c.words_good.ensures (λ h. (asked c.before.before.before.before h).words) (c.if-not-words_good.true)
 
-empty-from-requires : tie.Need-empty-from-requires
-empty-from-requires c κs = let e = c.before.before in ((s e.before.before).pre.1, part_few (part e))
+empty-from-requires : tie.Need-empty_from-requires
+empty-from-requires c κs = let e = c.before.before in ((s c.before.before.before.before).requires.1, part_few (part e))
 
-returns-3 : tie.Need-returns-3
-returns-3 c = refutes c.before.empty-from.ensures (λ h. (asked c.before.before.before.before.before.before h).rest) (not-true _ c.if3.true)
+returns-3 : tie.Need-returns-then-not-empty_from
+returns-3 c = refutes c.empty_from.ensures (λ h. (asked c.before.before.before.before.before.before h).rest) (c.if-not-empty_from.true)
 
-abbrev two : tie.Else3 → tie.Else2
+abbrev two : tie.Else-not-empty_from → tie.Else-not-words_good
 two e = e.before.before
 
-abbrev named : tie.Else3 → tie.After-size-in
+abbrev named : tie.Else-not-empty_from → tie.After-size_in-size
 named e = (two e).before.before.before.before
 
-counts-good-requires : tie.Need-counts-good-requires
-counts-good-requires c κs = let n = named c.before in ((s n).pre.1, omega (arith, c.free-count.ensures, n.before.before.before.shared-slice-known.given 4))
+counts-good-requires : tie.Need-counts_good-requires
+counts-good-requires c κs = let n = named c.before in ((s n).requires.1, omega (arith, c.free_count.ensures, n.shared_slice_known-1.given 4))
 
 -- How many pages are free is MIR's high byte.
-returns-4 : tie.Need-returns-4
+returns-4 : tie.Need-returns-then-not-counts_good
 returns-4 c =
-    let f = c.before.before in
-    let n = named f.before in
-    refutes c.before.counts-good.ensures (λ h. subst (λ (m : ℕ). GoodCounts (size n) m (counts n)) (sym f.free-count.ensures) (asked n h).counts) (not-true _ c.if4.true)
+    let f = c in
+    let n = named c.before.before.before in
+    refutes c.counts_good.ensures (λ h. subst (λ (m : ℕ). GoodCounts (size n) m (counts n)) (sym f.free_count.ensures) (asked n h).counts) (c.if-not-counts_good.true)
 
-abbrev four : tie.After-request-good → tie.Else4
+abbrev four : tie.After-request_good → tie.Else-not-counts_good
 four r = r.before.before.before.before
 
-abbrev three : tie.Else4 → tie.Else3
+abbrev three : tie.Else-not-counts_good → tie.Else-not-empty_from
 three e = e.before.before.before
 
-returns-5 : tie.Need-returns-5
-returns-5 c = refutes c.before.request-good.ensures (λ h. (asked (named (three (four c.before))) h).request) (not-true _ c.if5.true)
+returns-5 : tie.Need-returns-then-not-request_good
+returns-5 c = refutes c.request_good.ensures (λ h. (asked (named (three (four c.before))) h).request) (c.if-not-request_good.true)
 
-queues-good-requires : tie.Need-queues-good-requires
+queues-good-requires : tie.Need-queues_good-requires
 queues-good-requires c κs =
     let e = (two (three (four c.before))).before.before in
     let n = e.before.before in
-    ((s n).pre.0, (s n).pre.1, (s n).pre.2, part_few (part e))
+    ((s n).requires.0, (s n).requires.1, (s n).requires.2, part_few (part e))
 
-returns-6 : tie.Need-returns-6
+returns-6 : tie.Need-returns
 returns-6 c =
     let r = c.before.before in
     let e = four r in
     let places = three e in
     let words = two places in
     let n = named places in
-    agrees c.queues-good.ensures
+    agrees c.queues_good.ensures
     (λ g. holds n
     (record {
       part = part words.before.before;
-      words = words.before.words-good.ensures.sound (not-false _ words.if2.left);
-      rest = places.before.empty-from.ensures.sound (not-false _ places.if3.left);
-      counts = subst (λ (m : ℕ). GoodCounts (size n) m (counts n)) e.before.before.free-count.ensures (e.before.counts-good.ensures.sound (not-false _ e.if4.left));
-      request = r.request-good.ensures.sound (not-false _ c.before.if5.false);
+      words = words.words_good.ensures.sound (words.if-not-words_good.false);
+      rest = places.empty_from.ensures.sound (places.if-not-empty_from.false);
+      counts = subst (λ (m : ℕ). GoodCounts (size n) m (counts n)) e.free_count.ensures (e.counts_good.ensures.sound (e.if-not-counts_good.false));
+      request = r.request_good.ensures.sound (c.if-not-request_good.false);
       queues = g;
     }))
     (λ h. (asked n h).queues)
 
-pub well-formed-spec : {M : Type 1} → statement M
-well-formed-spec =
+pub well_formed_spec : {M : Type 1} → statement M
+well_formed_spec =
     tie.close
     (tie.spec
     (λ c κs. search rules) (λ c κs. search rules) returns (λ c κs. search rules) returns-2 empty-from-requires returns-3
