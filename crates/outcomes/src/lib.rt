@@ -10,7 +10,7 @@ pub use completion::{is_full, is_released, retire};
 pub use event::{is_good, is_within};
 
 // How a send ended, as its input says; `send_of` gives the rules' record of it.
-#[derive(Drop)]
+#[derive(Clone, Copy)]
 pub struct Send {
     pub outcome: u8,
     pub collisions: u8,

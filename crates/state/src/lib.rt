@@ -27,7 +27,7 @@ pub const PLACES: u8 = 24;
 // What the allocation result and the heads of queues are where there is no packet: bit 7 (FAILED, EMPTY) alone.
 pub const NO_PACKET: u8 = 0x80;
 
-#[derive(Drop)]
+#[derive(Clone, Copy)]
 pub enum Width {
     Byte,
     Word,

@@ -33,7 +33,7 @@ do-allocate-requires c κs =
     let o = c in
     let d = c in
     let s = c in
-    let v = subst Valid (sym d.decoded-order.ensures ∙ ap command_of o.order.given.1) (decode_valid s.args.value) in
+    let v = subst Valid (sym d.decoded-order.ensures ∙ ap command_of o.in-Allocate.is) (decode_valid s.args.value) in
     (v.0, v.1, s.requires.sound.kept, s.requires.sound.sets, s.requires.well.pages)
 
 do-release-requires : tie.Need-do_release-requires
@@ -41,48 +41,48 @@ do-release-requires c κs = let s = c in (s.requires.sound.kept, s.requires.soun
 
 returns : tie.Need-returns-in-Nothing
 unfolding perform
-returns c = let d = c.before.before in as-told d c.in-Nothing.is (λ mem. unchanged rules.nothing _ _ _ mem (answer.Done 0) (ready d).sound refl)
+returns c = let d = c.before in as-told d c.in-Nothing.is (λ mem. unchanged rules.nothing _ _ _ mem (answer.Done 0) (ready d).sound refl)
 
 returns-2 : tie.Need-returns-in-Allocate
 returns-2 c =
     let a = c in
     let o = c in
-    let d = c.before.before.before.before.before.before.before.before.before.before in
-    as-told d o.order.given.1 (a.do_allocate.ensures _ (ready d).sound.queues)
+    let d = c.before.before.before.before.before.before.before.before in
+    as-told d o.in-Allocate.is (a.do_allocate.ensures _ (ready d).sound.queues)
 
 returns-3 : tie.Need-returns-in-Reset
-returns-3 c = let a = c in let t = c in as-told c.before.before.before.before.before.before.before.before.before.before.before.before t.in-Reset.is a.do_reset.ensures
+returns-3 c = let a = c in let t = c in as-told c.before.before.before.before.before.before.before.before.before.before.before t.in-Reset.is a.do_reset.ensures
 
 returns-4 : tie.Need-returns-in-RemoveRx
 returns-4 c =
     let a = c in
     let t = c in
-    let d = c.before.before.before.before.before.before.before.before.before in
+    let d = c.before.before.before.before.before.before.before.before in
     as-told d t.in-RemoveRx.is (a.do_remove.ensures paged _ (ready d).sound.sets)
 
 returns-5 : tie.Need-returns-in-RemoveAndRelease
-returns-5 c = let a = c in let t = c in as-told c.before.before.before.before.before.before.before.before.before.before.before.before t.in-RemoveAndRelease.is a.do_remove_and_release.ensures
+returns-5 c = let a = c in let t = c in as-told c.before.before.before.before.before.before.before.before.before.before.before t.in-RemoveAndRelease.is a.do_remove_and_release.ensures
 
 returns-6 : tie.Need-returns-in-Release
 returns-6 c =
     let a = c in
     let t = c in
-    let d = c.before.before.before.before.before.before.before.before.before in
+    let d = c.before.before.before.before.before.before.before.before in
     as-told d t.in-Release.is (a.do_release.ensures _ (ready d))
 
 returns-7 : tie.Need-returns-in-Enqueue
-returns-7 c = let a = c in let t = c in as-told c.before.before.before.before.before.before.before.before.before t.in-Enqueue.is a.do_enqueue.ensures
+returns-7 c = let a = c in let t = c in as-told c.before.before.before.before.before.before.before.before t.in-Enqueue.is a.do_enqueue.ensures
 
 returns-8 : tie.Need-returns-in-ResetTx
 returns-8 c =
     let a = c in
     let t = c in
-    let d = c.before.before.before.before.before.before.before.before.before in
+    let d = c.before.before.before.before.before.before.before.before in
     as-told d t.in-ResetTx.is (a.do_reset_tx.ensures paged _ (ready d).sound.sets)
 
 returns-9 : tie.Need-returns-in-Unknown
 unfolding perform
-returns-9 c = let d = c.before.before in as-told d c.in-Unknown.is (λ mem. unchanged rules.unknown _ _ _ mem answer.Reserved (ready d).sound refl)
+returns-9 c = let d = c.before in as-told d c.in-Unknown.is (λ mem. unchanged rules.unknown _ _ _ mem answer.Reserved (ready d).sound refl)
 
 pub commanded_spec : {M : Type 1} → statement M
 commanded_spec =

@@ -15,7 +15,7 @@ use Rattle.data.proofs.read_data.Statement.{statement}
 use Rattle.data.proofs.read_data.Tie as tie
 
 abbrev begin : tie.After-gate_of-gate → tie.Start
-begin g = g.before.before.before.before.before.before
+begin g = g.before.before.before.before.before
 
 -- what the gate says, once it is told
 guards : (g : tie.After-gate_of-gate) {x : Gate} → g.gate_of-gate.result ≡ x → let a = (begin g).args in
@@ -35,27 +35,27 @@ unfolding read_data
 returns c =
     let r = c in
     let t = c in
-    let g = c.before.before.before.before.before.before.before.before in
+    let g = c.before.before.before.before.before.before in
     let s = begin g in
-    let h = guards g t.gate-in-Open-1.given.1 in
-    rw (not-true s.args.wide r.if-not-wide.true) (passed s.requires.0 s.args.memory.now true 1 _ h (r.read_byte.ensures.0 _ _ _ h.0 s.requires.0.sound))
+    let h = guards g t.in-Open.is in
+    rw (r.if-not-wide.true) (passed s.requires.0 s.args.memory.now true 1 _ h (r.read_byte.ensures.0 _ _ _ h.0 s.requires.0.sound))
 
 returns-2 : tie.Need-returns-in-Refused
 unfolding read_data
 returns-2 c =
-    let g = c.before.before.before in
+    let g = c.before in
     let s = begin g in
-    stopped s.requires.0 s.args.memory.now true (width_of s.args.wide) _ _ (guards g c.gate.given.1) (some-width s.args.wide)
+    stopped s.requires.0 s.args.memory.now true (width_of s.args.wide) _ _ (guards g c.in-Refused.is) (some-width s.args.wide)
 
 returns-3 : tie.Need-returns-else-not-wide
 unfolding read_data
 returns-3 c =
     let r = c in
     let t = c in
-    let g = c.before.before.before.before.before.before.before.before in
+    let g = c.before.before.before.before.before.before in
     let s = begin g in
-    let h = guards g t.gate-in-Open-1.given.1 in
-    rw (not-false s.args.wide r.if-not-wide.false) (passed s.requires.0 s.args.memory.now true 2 _ h (r.read_word.ensures.0 _ _ _ h.0 s.requires.0.sound))
+    let h = guards g t.in-Open.is in
+    rw (r.if-not-wide.false) (passed s.requires.0 s.args.memory.now true 2 _ h (r.read_word.ensures.0 _ _ _ h.0 s.requires.0.sound))
 
 pub read_data_spec : {M : Type 1} → statement M
-read_data_spec = tie.close (tie.spec (λ c κs. search rules) (λ c. search rules) (λ c. search rules) (λ c κs. let t = c.before.before.before in fits t.before.before t.gate-in-Open-1.given.1) (λ c. search rules) returns (λ c κs. let t = c.before.before.before in fits t.before.before t.gate-in-Open-1.given.1) (λ c. search rules) returns-2 (λ c. search rules) returns-3)
+read_data_spec = tie.close (tie.spec (λ c κs. search rules) (λ c. search rules) (λ c. search rules) (λ c κs. fits c.before.before.before c.in-Open.is) (λ c. search rules) returns (λ c κs. fits c.before.before.before c.in-Open.is) (λ c. search rules) returns-2 (λ c. search rules) returns-3)

@@ -15,7 +15,7 @@ use Rattle.data.proofs.write_data.Statement.{statement}
 use Rattle.data.proofs.write_data.Tie as tie
 
 abbrev begin : tie.After-gate_of-gate → tie.Start
-begin g = g.before.before.before.before.before.before
+begin g = g.before.before.before.before.before
 
 -- what the gate says, once it is told
 guards : (g : tie.After-gate_of-gate) {x : Gate} → g.gate_of-gate.result ≡ x → let a = (begin g).args in
@@ -32,9 +32,9 @@ fits g e = let s = begin g in room s.requires.0 s.args.memory.now s.requires.1 (
 returns : tie.Need-returns-in-Refused
 unfolding write_data
 returns c =
-    let g = c.before.before.before in
+    let g = c.before in
     let s = begin g in
-    stopped s.requires.0 s.args.memory.now false _ _ _ (guards g c.gate.given.1) (some_bytes s.args.wide s.args.value)
+    stopped s.requires.0 s.args.memory.now false _ _ _ (guards g c.in-Refused.is) (some_bytes s.args.wide s.args.value)
 
 -- the width is told
 returns-2 : tie.Need-returns-then-wide
@@ -43,9 +43,9 @@ returns-2 c =
     let r = c in
     let e = c in
     let t = c in
-    let g = c.before.before.before.before.before.before.before.before.before.before.before in
+    let g = c.before.before.before.before.before.before.before.before.before in
     let s = begin g in
-    let h = guards g t.gate-in-Open-1.given.1 in
+    let h = guards g t.in-Open.is in
     rw e.if-wide.true (passed s.requires.0 s.args.memory.now false 2 _ h (r.write_word.ensures.0 _ _ _ h.0 s.requires.0.sound))
 
 returns-3 : tie.Need-returns-else-wide
@@ -54,10 +54,10 @@ returns-3 c =
     let r = c in
     let e = c in
     let t = c in
-    let g = c.before.before.before.before.before.before.before.before.before.before.before in
+    let g = c.before.before.before.before.before.before.before.before.before in
     let s = begin g in
-    let h = guards g t.gate-in-Open-1.given.1 in
+    let h = guards g t.in-Open.is in
     rw e.if-wide.false (passed s.requires.0 s.args.memory.now false 1 _ h (r.write_byte.ensures.0 _ _ _ h.0 s.requires.0.sound))
 
 pub write_data_spec : {M : Type 1} → statement M
-write_data_spec = tie.close (tie.spec (λ c κs. search rules) (λ c. search rules) (λ c. search rules) (λ c κs. let t = c.before.before.before.before in fits t.before.before t.gate-in-Open-1.given.1) (λ c κs. let t = c.before.before.before.before in fits t.before.before t.gate-in-Open-1.given.1) (λ c. search rules) returns (λ c. search rules) (λ c. search rules) returns-2 (λ c. search rules) (λ c. search rules) returns-3)
+write_data_spec = tie.close (tie.spec (λ c κs. search rules) (λ c. search rules) (λ c. search rules) (λ c κs. fits c.before.before.before.before c.in-Open.is) (λ c κs. fits c.before.before.before.before c.in-Open.is) (λ c. search rules) returns (λ c. search rules) (λ c. search rules) returns-2 (λ c. search rules) (λ c. search rules) returns-3)

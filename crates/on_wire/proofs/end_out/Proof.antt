@@ -13,13 +13,13 @@ returns c =
     let p = c in
     let a = c in
     let x = a.args in
-    ends_bare x.tcr x.control _ x.out.now a.appends-with_fcs.ensures p.pad_out-end.ensures.0 (not-true a.appends-with_fcs.result c.if-not-with_fcs.true)
+    ends_bare x.tcr x.control _ x.out.now a.appends-with_fcs.ensures p.pad_out-end.ensures.0 (c.if-not-with_fcs.true)
 
 slice-aggregate-fcs : tie.Need-slice_bounds-fcs-end-2
 slice-aggregate-fcs c =
     let o = c in
     let p = c in
-    sym (length-take-le _ _ (omega (arith, p.requires, p.pad_out-end.ensures.1, o.out.given)))
+    sym (length-take-le _ _ (omega (arith, p.requires, p.pad_out-end.ensures.1, c.out-1.given)))
 
 returns-2 : tie.Need-returns
 returns-2 c =
@@ -30,7 +30,7 @@ returns-2 c =
     let a = c in
     let s = c in
     let x = s.args in
-    ends_fcs x.tcr x.control _ x.out.now a.appends-with_fcs.ensures p.pad_out-end.ensures.0 (not-false a.appends-with_fcs.result e.if-not-with_fcs.false)
+    ends_fcs x.tcr x.control _ x.out.now a.appends-with_fcs.ensures p.pad_out-end.ensures.0 (e.if-not-with_fcs.false)
     (omega (arith, s.requires.1, p.pad_out-end.ensures.1)) k.fcs-fcs.ensures f.put_fcs.ensures refl
 
 pub end_out_spec : {M : Type 1} → statement M

@@ -26,7 +26,7 @@ start l = l.before.before.before.before
 
 -- with its padding, where v is the length that is returned
 padded-out : (p : tie.After-pad) (v : ℕ) → let l = least_at p in let x = (start l).args in
-    v ≡ x.len + (l.least_length-least.result - x.len) → PutsOut (padded x.fcs x.tcr (take x.len x.out.now)) x.out.now p.pad.new.0 v
+    v ≡ x.len + (l.least_length-least.result - x.len) → PutsOut (padded x.fcs x.tcr (take x.len x.out.now)) x.out.now p.pad.new.out v
 padded-out p v h =
     let l = least_at p in
     let i = l in

@@ -36,19 +36,19 @@ unfolding decode
 returns-7 c = sym (ap decode c.in-224.is)
 
 returns-8 : tie.Need-returns-in-32-to-39
-returns-8 c = sym (decode_allocate _ c.if-value-lt32.false c.if-value-lt40.true)
+returns-8 c = sym (decode_allocate _ c.in-32-to-39.if-value-lt32-own.false c.in-32-to-39.if-value-lt40-own.true)
 
 returns-9 : tie.Need-returns-in_default
 returns-9 c =
     let v = c.args.value in
     let n = c.in_default.in_default-own.rest in
-    sym (decode_unknown v n.0.0.0.0.0.0.1 (λ e. omega (arith, c.if-value-lt32.true)) n.0.0.0.0.0.1 n.0.0.0.0.1 n.0.0.0.1 n.0.0.1 n.0.1 n.1)
+    sym (decode_unknown v n.0.0.0.0.0.0.1 (λ e. omega (arith, c.in_default.if-value-lt32-own.true)) n.0.0.0.0.0.1 n.0.0.0.0.1 n.0.0.0.1 n.0.0.1 n.0.1 n.1)
 
 returns-10 : tie.Need-returns-in_default-2
 returns-10 c =
     let v = c.args.value in
     let n = c.in_default.in_default-own.rest in
-    sym (decode_unknown v n.0.0.0.0.0.0.1 (λ e. omega (arith, c.if-value-lt40.false)) n.0.0.0.0.0.1 n.0.0.0.0.1 n.0.0.0.1 n.0.0.1 n.0.1 n.1)
+    sym (decode_unknown v n.0.0.0.0.0.0.1 (λ e. omega (arith, c.in_default.if-value-lt40-own.false)) n.0.0.0.0.0.1 n.0.0.0.0.1 n.0.0.0.1 n.0.0.1 n.0.1 n.1)
 
 pub decoded_spec : {M : Type 1} → statement M
 decoded_spec =

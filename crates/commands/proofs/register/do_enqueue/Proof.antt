@@ -39,7 +39,7 @@ returns : tie.Need-returns-then-not-is_allocated
 returns c =
     let a = c in
     let n = c in
-    refuses_5 paged rules.enqueue (λ x. did (after x)) enqueues _ _ _ _ n.named-packet.ensures n.requires.sound (sym a.is-allocated.ensures ∙ c.if-not-is_allocated.true)
+    refuses_5 paged rules.enqueue (λ x. did (after x)) enqueues _ _ _ _ n.named-packet.ensures n.requires.sound (sym a.is_allocated.ensures ∙ c.if-not-is_allocated.true)
 
 is-queued-requires : tie.Need-is_queued-requires
 is-queued-requires c κs =

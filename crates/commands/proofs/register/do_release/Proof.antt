@@ -43,7 +43,7 @@ returns c = λ q r.
 
 is-queued-requires : tie.Need-is_queued-requires
 is-queued-requires c κs =
-    let e = c.before in
+    let e = c in
     let s = e in
     (s.requires.0.whole, omega (arith, small e, part_few s.requires.1.part))
 
@@ -55,7 +55,7 @@ returns-2 c = λ q r.
 
 give-back-requires : tie.Need-give_back-requires
 give-back-requires c κs =
-    let e = c.before.before.before.before.before in
+    let e = c.before.before.before.before in
     let s = e in
     (s.requires.0, s.requires.1, s.requires.2, small e, s.requires.3)
 

@@ -50,8 +50,8 @@ returns-2 c = λ mem.
     let back = b.give_back.ensures in
     performs rules.remove_and_release w ss q mem (λ x. rules.give_back (get_or x.pool.rx 0 0) (in_pool (set_rx (drop 1 x.pool.rx)) x))
     (releases_head v (some e))
-    (back.chip l.leave_rx-head.new.1.0 mem ∙ ap (rules.give_back k) (rejoins_chip left.1 paged ss mem) ∙ ap (λ (j : ℕ). rules.give_back j (in_pool (set_rx (drop 1 (queue_in 0 (word w 6) q))) v)) left.0)
-    (alters_sound back l.leave_rx-head.new.1.0 left.1.queues)
+    (back.chip l.leave_rx-head.new.queues mem ∙ ap (rules.give_back k) (rejoins_chip left.1 paged ss mem) ∙ ap (λ (j : ℕ). rules.give_back j (in_pool (set_rx (drop 1 (queue_in 0 (word w 6) q))) v)) left.0)
+    (alters_sound back l.leave_rx-head.new.queues left.1.queues)
 
 pub do_remove_and_release_spec : {M : Type 1} → statement M
 do_remove_and_release_spec =

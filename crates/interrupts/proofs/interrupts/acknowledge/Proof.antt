@@ -7,36 +7,36 @@ use borrow.Author.Rules.{rules}
 use Rattle.interrupts.proofs.interrupts.acknowledge.Statement.{statement}
 use Rattle.interrupts.proofs.interrupts.acknowledge.Tie as tie
 
-returns : tie.Need-returns
+returns : tie.Need-returns-then-not-is_set
 returns c =
-    let e = c.before.before in
-    let d = e.before.before.before.before in
-    none_asked d.args.v _ d.args.words.now d.args.queues.now d.requires.0 d.requires.1 e.latches-after.ensures (sym c.before.is_set.ensures ∙ not-true _ c.if1.true)
+    let e = c in
+    let d = c in
+    none_asked d.args.v _ d.args.words.now d.args.queues.now d.requires.0 d.requires.1 e.latches_after.ensures (sym c.is_set.ensures ∙ c.if-not-is_set.true)
 
-returns-2 : tie.Need-returns-2
+returns-2 : tie.Need-returns-then-words-eq0
 returns-2 c =
-    let e = c.before.before.before.before in
-    let d = e.before.before.before.before in
-    none_there d.args.v _ d.args.words.now d.args.queues.now d.requires.0 d.requires.1 e.latches-after.ensures c.if2.true
+    let e = c in
+    let d = c in
+    none_there d.args.v _ d.args.words.now d.args.queues.now d.requires.0 d.requires.1 e.latches_after.ensures c.if-words-eq0.true
 
-leave-completion-requires : tie.Need-leave-completion-requires
+leave-completion-requires : tie.Need-leave_completion-requires
 leave-completion-requires c κs =
-    let f = c.before.before in
-    let e = f.before.before.before.before in
-    let d = e.before.before.before.before in
-    let some = f.if2.false in
-    (kept_then d.args.v _ d.args.words.now d.args.queues.now d.requires.0 d.requires.1 e.latches-after.ensures, queues_then d.args.v _ d.args.words.now d.args.queues.now d.requires.0 d.requires.1 e.latches-after.ensures, omega arith)
+    let f = c in
+    let e = c in
+    let d = c in
+    let some = f.if-words-eq0.false in
+    (kept_then d.args.v _ d.args.words.now d.args.queues.now d.requires.0 d.requires.1 e.latches_after.ensures, queues_then d.args.v _ d.args.words.now d.args.queues.now d.requires.0 d.requires.1 e.latches_after.ensures, omega arith)
 
-returns-3 : tie.Need-returns-3
+returns-3 : tie.Need-returns
 returns-3 c =
-    let f = c.before.before.before.before.before.before.before in
-    let g = f.before.before in
-    let e = g.before.before in
-    let d = e.before.before.before.before in
-    head_leaves d.args.v _ d.args.words.now d.args.queues.now d.requires.0 d.requires.1 e.latches-after.ensures (sym g.before.is_set.ensures ∙ not-false _ g.if1.false) c.before.before.before.before.leave-completion.ensures
+    let f = c in
+    let g = c in
+    let e = c in
+    let d = c in
+    head_leaves d.args.v _ d.args.words.now d.args.queues.now d.requires.0 d.requires.1 e.latches_after.ensures (sym g.is_set.ensures ∙ g.if-not-is_set.false) c.leave_completion.ensures
 
-pub acknowledge-spec : {M : Type 1} → statement M
-acknowledge-spec =
+pub acknowledge_spec : {M : Type 1} → statement M
+acknowledge_spec =
     tie.close
     (tie.spec
     (λ c. search rules)

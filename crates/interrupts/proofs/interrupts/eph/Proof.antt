@@ -6,8 +6,8 @@ use Rattle.interrupts.proofs.interrupts.eph.Tie as tie
 returns : tie.Need-returns
 returns c = cc
 
-pub eph-spec : {M : Type 1} → statement M
-eph-spec =
+pub eph_spec : {M : Type 1} → statement M
+eph_spec =
     tie.close
     (tie.spec
     (λ c κs. search rules)

@@ -8,8 +8,8 @@ returns : tie.Need-returns
 unfolding failed
 returns c = cc
 
-pub failed-spec : {M : Type 1} → statement M
-failed-spec =
+pub failed_spec : {M : Type 1} → statement M
+failed_spec =
     tie.close
     (tie.spec
     (λ c κs. search rules)

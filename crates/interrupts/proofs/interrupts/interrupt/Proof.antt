@@ -5,17 +5,17 @@ use borrow.Author.Rules.{rules}
 use Rattle.interrupts.proofs.interrupts.interrupt.Statement.{statement}
 use Rattle.interrupts.proofs.interrupts.interrupt.Tie as tie
 
-add-result : tie.Need-overflow-add-result
+add-result : tie.Need-overflow_add-result
 add-result c =
-    let s = c.before.before.before in
-    omega (arith, s.requires.0.fixed.mask_low, c.before.status.ensures.1, c.shared-slice-known2.given 22)
+    let s = c in
+    omega (arith, s.requires.0.fixed.mask_low, c.status.ensures.1, c.shared_slice_known-2-1.given 22)
 
 returns : tie.Need-returns
 unfolding word_of
 returns c =
-    let s = c.before.before.before in
+    let s = c in
     let m = s.requires.0.fixed.mask_low in
-    λ l sets q mem h. let e = c.before.status.ensures.0 l sets q mem h in omega arith
+    λ l sets q mem h. let e = c.status.ensures.0 l sets q mem h in omega arith
 
-pub interrupt-spec : {M : Type 1} → statement M
-interrupt-spec = tie.close (tie.spec (λ c κs. search rules) (λ c. search rules) add-result returns)
+pub interrupt_spec : {M : Type 1} → statement M
+interrupt_spec = tie.close (tie.spec (λ c κs. search rules) (λ c. search rules) add-result returns)

@@ -13,10 +13,10 @@ use Rattle.interrupts.proofs.interrupts.line_up.Tie as tie
 returns : tie.Need-returns
 unfolding line_up
 returns c =
-    let s = c.before.before.before in
+    let s = c in
     let mask = word s.args.words.now 22 / 256 in
-    let e = c.before.status.ensures in
-    λ l sets q mem h. shared c.before.status.result mask 8 (omega (arith, e.1)) ∙ ap (λ (x : ℕ). share 8 x mask) (e.0 l sets q mem h)
+    let e = c.status.ensures in
+    λ l sets q mem h. shared c.status.result mask 8 (omega (arith, e.1)) ∙ ap (λ (x : ℕ). share 8 x mask) (e.0 l sets q mem h)
 
-pub line-up-spec : {M : Type 1} → statement M
-line-up-spec = tie.close (tie.spec (λ c κs. search rules) (λ c. search rules) returns)
+pub line_up_spec : {M : Type 1} → statement M
+line_up_spec = tie.close (tie.spec (λ c κs. search rules) (λ c. search rules) returns)

@@ -7,16 +7,16 @@ use Rattle.interrupts.proofs.interrupts.status.Statement.{statement}
 use Rattle.interrupts.proofs.interrupts.status.Tie as tie
 
 gathered-requires : tie.Need-gathered-requires
-gathered-requires c κs = latches_small _ c.before.before.before.before.before.before.before.before.before.before.requires.fixed.latched
+gathered-requires c κs = latches_small _ c.requires.fixed.latched
 
 returns : tie.Need-returns
 returns c =
-    let d = c.before.before.before.before in
-    let s = d.before.before.before.before.before.before.before in
-    (shows s.args.words.now s.requires _ _ _ d.before.before.before.before.is_set.ensures d.eph.ensures c.gathered.ensures.0, c.gathered.ensures.1)
+    let d = c in
+    let s = c in
+    (shows s.args.words.now s.requires _ _ _ d.is_set-granted.ensures d.eph-eph.ensures c.gathered.ensures.0, c.gathered.ensures.1)
 
-pub status-spec : {M : Type 1} → statement M
-status-spec =
+pub status_spec : {M : Type 1} → statement M
+status_spec =
     tie.close
     (tie.spec
     (λ c. search rules)

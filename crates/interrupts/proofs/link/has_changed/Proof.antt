@@ -7,5 +7,5 @@ use Rattle.interrupts.proofs.link.has_changed.Tie as tie
 returns : tie.Need-returns
 returns c = change_bit _ c.requires
 
-pub has-changed-spec : {M : Type 1} → statement M
-has-changed-spec = tie.close (tie.spec returns)
+pub has_changed_spec : {M : Type 1} → statement M
+has_changed_spec = tie.close (tie.spec returns)

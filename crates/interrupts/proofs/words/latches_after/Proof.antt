@@ -7,5 +7,5 @@ use Rattle.interrupts.proofs.words.latches_after.Tie as tie
 returns : tie.Need-returns
 returns c = acknowledged c.args.v c.args.latches (search rules) c.requires
 
-pub latches-after-spec : {M : Type 1} → statement M
-latches-after-spec = tie.close (tie.spec (λ c. search rules) returns)
+pub latches_after_spec : {M : Type 1} → statement M
+latches_after_spec = tie.close (tie.spec (λ c. search rules) returns)

@@ -6,7 +6,7 @@ use Rattle.judging.proofs.address.is_broadcast.Tie as tie
 
 returns : tie.Need-returns
 unfolding broadcast
-returns c = c.is_Address.ensures
+returns c = c.is_address.ensures
 
 pub is_broadcast_spec : {M : Type 1} → statement M
 is_broadcast_spec = tie.close (tie.spec (λ c κs. search rules) returns)

@@ -7,17 +7,17 @@ use borrow.Author.Rules.{rules}
 use Rattle.reset.proofs.resets.reset_words.Statement.{statement}
 use Rattle.reset.proofs.resets.reset_words.Tie as tie
 
-slice-write-words-4 : tie.Need-slice-write-words-4
-slice-write-words-4 c = simp length-set (omega (arith, c.before.before.cleared-words.ensures.1))
+slice-write-words-4 : tie.Need-bounds-words-13
+slice-write-words-4 c = simp length-set (omega (arith, c.cleared_words.ensures.1))
 
-slice-write-words-5 : tie.Need-slice-write-words-5
-slice-write-words-5 c = simp length-set (omega (arith, c.before.before.cleared-words.ensures.1))
+slice-write-words-5 : tie.Need-bounds-words-17
+slice-write-words-5 c = simp length-set (omega (arith, c.cleared_words.ensures.1))
 
 returns : tie.Need-returns
-returns c = let d = c.before.before.before.before.before.before in rw c.before.before.cleared-words.ensures.0 (reset_to _ d.args.words.now d.requires refl)
+returns c = let d = c in rw c.cleared_words.ensures.0 (reset_to _ d.args.words.now d.requires refl)
 
-pub reset-words-spec : {M : Type 1} → statement M
-reset-words-spec =
+pub reset_words_spec : {M : Type 1} → statement M
+reset_words_spec =
     tie.close
     (tie.spec
     (λ c. search rules)

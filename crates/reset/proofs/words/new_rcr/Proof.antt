@@ -6,14 +6,14 @@ use borrow.Author.Rules.{rules}
 use Rattle.reset.proofs.words.new_rcr.Statement.{statement}
 use Rattle.reset.proofs.words.new_rcr.Tie as tie
 
-returns : tie.Need-returns
+returns : tie.Need-returns-then-is_set
 unfolding new_rcr
-returns c = rw (sym c.before.is_set.ensures ∙ c.if1.true) c.before.before.merged.ensures.word
+returns c = rw (sym c.is_set.ensures ∙ c.if-is_set.true) c.merged-x.ensures.word
 
-returns-2 : tie.Need-returns-2
+returns-2 : tie.Need-returns
 unfolding new_rcr
-returns-2 c = rw (sym c.before.before.is_set.ensures ∙ c.before.if1.false) (c.with-clear.ensures ∙ ap (clear_bit 0) c.before.before.before.merged.ensures.word)
+returns-2 c = rw (sym c.is_set.ensures ∙ c.if-is_set.false) (c.with_clear.ensures ∙ ap (clear_bit 0) c.merged-x.ensures.word)
 
-pub new-rcr-spec : {M : Type 1} → statement M
-new-rcr-spec =
+pub new_rcr_spec : {M : Type 1} → statement M
+new_rcr_spec =
     tie.close (tie.spec (λ c κs. search rules) (λ c κs. search rules) returns (λ c κs. search rules) returns-2)
