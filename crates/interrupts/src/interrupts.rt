@@ -3,7 +3,8 @@ ghost use Rattle.std.specs.Prelude.{◌≡◌, ◌&&◌, ◌||◌, List, ℕ, �
 ghost use Rattle.rules.specs.Bits.{bit, flag, word_of};
 ghost use Rattle.rules.specs.Chip.{Layout};
 ghost use Rattle.rules.specs.Interrupts as rules;
-ghost use Rattle.rules.specs.Registers.{INTERRUPT, lanes_at, write_register};
+ghost use Rattle.rules.specs.Registers as registers;
+ghost use Rattle.rules.specs.Registers.{lanes_at, write_register};
 ghost use Rattle.state.specs.Meaning.{width_of, Placed};
 ghost use Rattle.state.specs.View.{registers_in, figures, view_of, Kept};
 ghost use Rattle.state.specs.Promise.{QueuesIn, PagesIn, MakesOf};
@@ -114,7 +115,7 @@ pub fn write_interrupt(
     value: u16,
 ) -> Answer
     requires { Kept words.old × QueuesIn (figures words.old) queues.old × Placed width offset × ((l : Layout) × (s : List ℕ) × PagesIn l (figures words.old) s) }
-    ensures done { (l : Layout) (s mem : List ℕ) → PagesIn l (figures words.old) s → MakesOf l (write_register INTERRUPT (lanes_at (width_of width) offset) value (view_of l words.old s queues.old mem)) result words.new s queues.new mem }
+    ensures done { (l : Layout) (s mem : List ℕ) → PagesIn l (figures words.old) s → MakesOf l (write_register registers.INTERRUPT (lanes_at (width_of width) offset) value (view_of l words.old s queues.old mem)) result words.new s queues.new mem }
     ensures long { (length words.new ≡ 32) × (length queues.new ≡ 72) }
 {
     words[INTERRUPT] = high_only(state::merged(width, offset, value, words[INTERRUPT]));

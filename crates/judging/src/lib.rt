@@ -8,7 +8,7 @@ pub use judge::judged;
 pub use length::{count_of, data_length, pages_for, status_of};
 
 // What becomes of a frame; the answer's value in the order of document 01 is 0 to 5.
-#[derive(Drop)]
+#[derive(Clone, Copy)]
 pub enum Verdict {
     Stored,
     Disabled,

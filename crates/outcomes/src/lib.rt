@@ -18,7 +18,7 @@ pub struct Send {
 }
 
 // The nibbles of ECR, lowest first: good after one collision; two or more; deferral 1; deferral 2.
-#[derive(Drop)]
+#[derive(Clone, Copy)]
 struct Tally {
     pub single: u16,
     pub several: u16,

@@ -6,8 +6,8 @@ use Rattle.receive.proofs.aborted.Tie as tie
 
 returns : tie.Need-returns
 returns c =
-    let s = c.before.before.before in
-    does_with s.args.value (sets_abort _ s.args.words.now s.requires c.with-set.ensures)
+    let s = c in
+    does_with s.args.value (sets_abort _ s.args.words.now s.requires c.with_set.ensures)
 
-pub aborted-spec : {M : Type 1} → statement M
-aborted-spec = tie.close (tie.spec (λ c. search rules) (λ c κs. search rules) (λ c. search rules) (λ c. search rules) returns)
+pub aborted_spec : {M : Type 1} → statement M
+aborted_spec = tie.close (tie.spec (λ c. search rules) (λ c κs. search rules) (λ c. search rules) (λ c. search rules) returns)

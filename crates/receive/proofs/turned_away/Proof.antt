@@ -25,31 +25,31 @@ told {w = w} {w' = w'} {a = a} e = subst (λ (x : Verdict). Does (turned_away (a
 stays : (k : ℕ) {w : List ℕ} → Kept w → Does (λ c. done_with k c) w (Done k) w
 stays k h = record { step = λ l s q mem. refl; still = refl; kept = h }
 
-returns : tie.Need-returns
-returns c = absurd (true≢false (sym (ap (λ (v : Verdict). is_stored (arrival_of v)) c.enum_told.given.1) ∙ c.before.before.before.requires.1))
+returns : tie.Need-returns-in-Stored
+returns c = absurd (true≢false (sym (ap (λ (v : Verdict). is_stored (arrival_of v)) c.in-Stored.is) ∙ c.requires.1))
 
-returns-2 : tie.Need-returns-2
+returns-2 : tie.Need-returns-in-Disabled
 unfolding value_for after
-returns-2 c = told c.enum-told2.given.1 (stays 1 c.before.before.before.requires.0)
+returns-2 c = told c.in-Disabled.is (stays 1 c.requires.0)
 
-returns-3 : tie.Need-returns-3
+returns-3 : tie.Need-returns-in-NotAccepted
 unfolding value_for after
-returns-3 c = told c.enum-told3.given.1 (stays 2 c.before.before.before.requires.0)
+returns-3 c = told c.in-NotAccepted.is (stays 2 c.requires.0)
 
-returns-4 : tie.Need-returns-4
+returns-4 : tie.Need-returns-in-TooLong
 unfolding value_for after
-returns-4 c = let f = c.before.before in told f.before.before.enum-told4.given.1 f.aborted.ensures
+returns-4 c = let f = c in told f.in-TooLong.is f.aborted.ensures
 
-returns-5 : tie.Need-returns-5
+returns-5 : tie.Need-returns-in-Bad
 unfolding value_for after
-returns-5 c = told c.enum-told5.given.1 (stays 4 c.before.before.before.requires.0)
+returns-5 c = told c.in-Bad.is (stays 4 c.requires.0)
 
-returns-6 : tie.Need-returns-6
+returns-6 : tie.Need-returns-in-NoRoom
 unfolding value_for after
-returns-6 c = let f = c.before.before in told f.before.before.enum-told6.given.1 f.overrun.ensures
+returns-6 c = let f = c in told f.in-NoRoom.is f.overrun.ensures
 
-pub turned-away-spec : {M : Type 1} → statement M
-turned-away-spec =
+pub turned_away_spec : {M : Type 1} → statement M
+turned_away_spec =
     tie.close
     (tie.spec
     (λ c. search rules)

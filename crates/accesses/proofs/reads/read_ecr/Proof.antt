@@ -27,17 +27,17 @@ reached s {l} {n} {mem} {a} {w} p =
 returns : tie.Need-returns
 unfolding register_in register_at
 returns c =
-    let r = c.before.before.before in
-    let s = r.before.before.before.before in
-    let e = r.read-ecr.ensures in
+    let r = c in
+    let s = c.before.before.before.before.before.before.before in
+    let e = r.read_ecr.ensures in
     let p = lanes_at (width_of s.args.width) s.args.offset in
     (λ l n mem h. answered c.gives.ensures (reached s (does_makes (e.1.0 p) (record { kept = s.requires.0; queues = s.requires.1; sets = h }) mem)), e.1.1)
 
-pub read-ecr-spec : {M : Type 1} → statement M
-read-ecr-spec =
+pub read_ecr_spec : {M : Type 1} → statement M
+read_ecr_spec =
     tie.close
     (tie.spec
     (λ c κs. search rules)
     (λ c κs. search rules)
-    (λ c. let r = c.before.before.before in r.read-ecr.ensures.1.1 ∙ sym r.before.before.before.before.requires.0.whole)
+    (λ c. let r = c in r.read_ecr.ensures.1.1 ∙ sym r.requires.0.whole)
     returns)

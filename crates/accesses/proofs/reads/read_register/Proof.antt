@@ -65,114 +65,114 @@ arms =
     ∷ (4 ∷ [])
     ∷ []
 
-shared-slice-read-gives-3 : tie.Need-shared-slice-read-gives-3
+shared-slice-read-gives-3 : tie.Need-bounds-words-at
 unfolding all_below
 shared-slice-read-gives-3 c =
-    let m = c.before in
-    let s = m.before.before.before in
-    let k = key_below 32 (0 ∷ 2 ∷ 10 ∷ 12 ∷ 14 ∷ 16 ∷ 19 ∷ 24 ∷ 26 ∷ []) _ refl m.match.keys8 in
+    let m = c in
+    let s = c in
+    let k = key_below 32 (0 ∷ 2 ∷ 10 ∷ 12 ∷ 14 ∷ 16 ∷ 19 ∷ 24 ∷ 26 ∷ []) _ refl m.in-0.is in
     omega (arith)
 
-shared-slice-read-gives-4 : tie.Need-shared-slice-read-gives-4
+shared-slice-read-gives-4 : tie.Need-bounds-words-at-in-5
 unfolding all_below
 shared-slice-read-gives-4 c =
-    let m = c.before in
-    let s = m.before.before.before in
-    let k = key_below 32 (5 ∷ 11 ∷ 17 ∷ 25 ∷ 27 ∷ []) _ refl m.match.keys9 in
+    let m = c in
+    let s = c in
+    let k = key_below 32 (5 ∷ 11 ∷ 17 ∷ 25 ∷ 27 ∷ []) _ refl m.in-5.is in
     omega (arith)
 
 -- not modelled
-returns : tie.Need-returns
+returns : tie.Need-returns-in-6
 unfolding register_in register_at
 returns c =
     let s = c.before.before.before in
     let none = reads_absent (lanes s) (words s) s.requires.0 in
-    plain s _ refl (by_key (λ (k : ℕ). Does (read_register (register_in k) (lanes s)) (words s) NotModelled (words s)) (6 ∷ 8 ∷ 13 ∷ 28 ∷ 30 ∷ 32 ∷ 34 ∷ 36 ∷ 38 ∷ []) _ c.match.keys6 none none none none none none none none none)
+    plain s _ refl (by_key (λ (k : ℕ). Does (read_register (register_in k) (lanes s)) (words s) NotModelled (words s)) (6 ∷ 8 ∷ 13 ∷ 28 ∷ 30 ∷ 32 ∷ 34 ∷ 36 ∷ 38 ∷ []) _ c.in-6.is none none none none none none none none none)
 
-returns-2 : tie.Need-returns-2
+returns-2 : tie.Need-returns-in-9
 unfolding register_in register_at
 returns-2 c =
     let s = c.before.before.before in
     let none = reads_absent (lanes s) (words s) s.requires.0 in
-    plain s _ refl (by_key (λ (k : ℕ). Does (read_register (register_in k) (lanes s)) (words s) NotModelled (words s)) (9 ∷ 29 ∷ 33 ∷ 35 ∷ 37 ∷ []) _ c.match.keys7 none none none none none)
+    plain s _ refl (by_key (λ (k : ℕ). Does (read_register (register_in k) (lanes s)) (words s) NotModelled (words s)) (9 ∷ 29 ∷ 33 ∷ 35 ∷ 37 ∷ []) _ c.in-9.is none none none none none)
 
 -- MIR, and what is found for each read
-returns-3 : tie.Need-returns-3
+returns-3 : tie.Need-returns-in-4
 unfolding register_in register_at
 returns-3 c =
-    let m = c.before.before in
-    let s = m.before.before.before in
-    λ l n mem h. answered c.gives.ensures (reached s 4 m.match.keys1 (λ i k x y. reads_mir (lanes s) _ _ _ (sound s y) x) l n mem h)
+    let m = c in
+    let s = c.before.before.before.before.before in
+    λ l n mem h. answered c.gives.ensures (reached s 4 m.in-4.is (λ i k x y. reads_mir (lanes s) _ _ _ (sound s y) x) l n mem h)
 
-returns-4 : tie.Need-returns-4
+returns-4 : tie.Need-returns-in-18
 unfolding register_in register_at
 returns-4 c =
-    let m = c.before.before in
-    let s = m.before.before.before in
-    λ l n mem h. answered c.gives2.ensures (reached s 18 m.match.keys2 (λ i k x y. reads_heads (lanes s) _ _ _ (sound s y) _ c.before.heads.ensures x) l n mem h)
+    let m = c in
+    let s = c.before.before.before.before.before in
+    λ l n mem h. answered c.gives-in-18.ensures (reached s 18 m.in-18.is (λ i k x y. reads_heads (lanes s) _ _ _ (sound s y) _ c.heads.ensures x) l n mem h)
 
-returns-5 : tie.Need-returns-5
+returns-5 : tie.Need-returns-in-22
 unfolding register_in register_at
 returns-5 c =
-    let m = c.before.before in
-    let s = m.before.before.before in
-    λ l n mem h. answered c.gives3.ensures (reached s 22 m.match.keys3 (λ i k x y. reads_interrupt (lanes s) _ _ _ (sound s y) _ c.before.interrupt.ensures x) l n mem h)
+    let m = c in
+    let s = c.before.before.before.before.before in
+    λ l n mem h. answered c.gives-in-22.ensures (reached s 22 m.in-22.is (λ i k x y. reads_interrupt (lanes s) _ _ _ (sound s y) _ c.interrupt.ensures x) l n mem h)
 
 -- EPHSR, which shows the link
-returns-6 : tie.Need-returns-6
+returns-6 : tie.Need-returns-in-1
 unfolding register_in register_at
 returns-6 c =
-    let m = c.before.before in
-    let s = m.before.before.before in
-    let shown = subst (Shows rules.EPHSR (lanes s) (words s)) (sym c.before.ephsr.ensures) (reads_ephsr (lanes s) (words s) s.requires.0) in
-    λ l n mem h. answered c.gives4.ensures (plain s 1 m.match.keys4 shown l n mem h)
+    let m = c in
+    let s = c.before.before.before.before.before in
+    let shown = subst (Shows rules.EPHSR (lanes s) (words s)) (sym c.ephsr.ensures) (reads_ephsr (lanes s) (words s) s.requires.0) in
+    λ l n mem h. answered c.gives-in-1.ensures (plain s 1 m.in-1.is shown l n mem h)
 
 -- the bank
-returns-7 : tie.Need-returns-7
+returns-7 : tie.Need-returns-in-7
 unfolding register_in register_at
 returns-7 c =
-    let m = c.before.before in
-    let s = m.before.before.before in
+    let m = c in
+    let s = c.before.before.before.before.before in
     let bank = reads_bank (lanes s) (words s) s.requires.0 in
-    let shown = by_key (λ (k : ℕ). Shows (register_in k) (lanes s) (words s) (word (words s) 7)) (7 ∷ 15 ∷ 23 ∷ 31 ∷ 39 ∷ 47 ∷ 55 ∷ 63 ∷ []) _ m.match.keys5 bank bank bank bank bank bank bank bank in
-    λ l n mem h. answered c.gives5.ensures (plain s _ refl shown l n mem h)
+    let shown = by_key (λ (k : ℕ). Shows (register_in k) (lanes s) (words s) (word (words s) 7)) (7 ∷ 15 ∷ 23 ∷ 31 ∷ 39 ∷ 47 ∷ 55 ∷ 63 ∷ []) _ m.in-7.is bank bank bank bank bank bank bank bank in
+    λ l n mem h. answered c.gives-in-7.ensures (plain s _ refl shown l n mem h)
 
 -- the words
-returns-8 : tie.Need-returns-8
+returns-8 : tie.Need-returns-in-0
 unfolding register_in register_at
 returns-8 c =
-    let m = c.before.before in
-    let s = m.before.before.before in
+    let m = c in
+    let s = c.before.before.before.before.before in
     let p = lanes s in
     let w = words s in
     let k = s.requires.0 in
-    let shown = by_key (λ (j : ℕ). Shows (register_in j) p w (word w j)) (0 ∷ 2 ∷ 10 ∷ 12 ∷ 14 ∷ 16 ∷ 19 ∷ 24 ∷ 26 ∷ []) _ m.match.keys8
+    let shown = by_key (λ (j : ℕ). Shows (register_in j) p w (word w j)) (0 ∷ 2 ∷ 10 ∷ 12 ∷ 14 ∷ 16 ∷ 19 ∷ 24 ∷ 26 ∷ []) _ m.in-0.is
     (reads_tcr p w k) (reads_rcr p w k) (reads_station_0 p w k) (reads_station_2 p w k) (reads_control p w k) (reads_command p w k) (reads_pointer p w k) (reads_table_0 p w k) (reads_table_2 p w k) in
-    λ l n mem h. answered c.gives6.ensures (plain s _ refl shown l n mem h)
+    λ l n mem h. answered c.gives-in-0.ensures (plain s _ refl shown l n mem h)
 
-returns-9 : tie.Need-returns-9
+returns-9 : tie.Need-returns-in-5
 unfolding register_in register_at
 returns-9 c =
-    let m = c.before.before in
-    let s = m.before.before.before in
+    let m = c in
+    let s = c.before.before.before.before.before in
     let p = lanes s in
     let w = words s in
     let k = s.requires.0 in
-    let shown = by_key (λ (j : ℕ). Shows (register_in j) p w (word w j)) (5 ∷ 11 ∷ 17 ∷ 25 ∷ 27 ∷ []) _ m.match.keys9
+    let shown = by_key (λ (j : ℕ). Shows (register_in j) p w (word w j)) (5 ∷ 11 ∷ 17 ∷ 25 ∷ 27 ∷ []) _ m.in-5.is
     (reads_reserved p w k) (reads_station_1 p w k) (reads_packet p w k) (reads_table_1 p w k) (reads_table_3 p w k) in
-    λ l n mem h. answered c.gives7.ensures (plain s _ refl shown l n mem h)
+    λ l n mem h. answered c.gives-in-5.ensures (plain s _ refl shown l n mem h)
 
 -- banks 5 to 7
-returns-10 : tie.Need-returns-10
+returns-10 : tie.Need-returns-in_default
 unfolding passed in_some member
 returns-10 c =
-    let m = c.before in
-    let s = m.before.before.before in
-    let unused = unused_left ((3 ∷ []) ∷ arms) refl s.args.at (omega (arith, s.requires.3, place_below _ _ (words s) s.requires.0 s.requires.2)) s.requires.4 (m.match.rest, s.requires.5) in
-    λ l n mem h. answered c.gives8.ensures (plain s _ refl (subst (λ (x : rules.Register). Shows x (lanes s) (words s) 0x3333) (sym unused) (reads_unused (lanes s) (words s) s.requires.0)) l n mem h)
+    let m = c in
+    let s = c.before.before.before.before in
+    let unused = unused_left ((3 ∷ []) ∷ arms) refl s.args.at (omega (arith, s.requires.3, place_below _ _ (words s) s.requires.0 s.requires.2)) s.requires.4 (m.in_default.in_default-own.rest, s.requires.5) in
+    λ l n mem h. answered c.gives-in_default.ensures (plain s _ refl (subst (λ (x : rules.Register). Shows x (lanes s) (words s) 0x3333) (sym unused) (reads_unused (lanes s) (words s) s.requires.0)) l n mem h)
 
-pub read-register-spec : {M : Type 1} → statement M
-read-register-spec =
+pub read_register_spec : {M : Type 1} → statement M
+read_register_spec =
     tie.close
     (tie.spec
     (λ c. search rules)
@@ -181,7 +181,7 @@ read-register-spec =
     (λ c κs. search rules)
     (λ c κs. let s = c.before.before.before in (s.requires.0, (queues s, s.requires.1)))
     (λ c κs. search rules)
-    (λ c κs. c.before.before.before.requires.0)
+    (λ c κs. c.requires.0)
     (λ c κs. search rules)
     (λ c. search rules)
     (λ c κs. search rules)

@@ -80,75 +80,75 @@ words-odd : (k : ℕ) → OneOf (11 ∷ 25 ∷ 27 ∷ []) k → Plain (register_
 unfolding register_in register_at
 words-odd k o = by_key (λ (j : ℕ). Plain (register_in j) j) (11 ∷ 25 ∷ 27 ∷ []) k o writes_station_1 writes_table_1 writes_table_3
 
-write-word-requires : tie.Need-write-word-requires
+write-word-requires : tie.Need-write_word-requires
 unfolding all_below
 write-word-requires c κs =
-    let m = c.before in
-    let s = m.before.before.before in
-    let o = m.match.keys11 in
+    let m = c in
+    let s = c in
+    let o = m.in-10.is in
     (s.requires.0, key_below 32 (10 ∷ 12 ∷ 19 ∷ 24 ∷ 26 ∷ []) _ refl o, (register_in s.args.at, words-even s.args.at o))
 
-write-word-requires-2 : tie.Need-write-word-requires-2
+write-word-requires-2 : tie.Need-write_word-requires-in-11
 unfolding all_below
 write-word-requires-2 c κs =
-    let m = c.before in
-    let s = m.before.before.before in
-    let o = m.match.keys12 in
+    let m = c in
+    let s = c in
+    let o = m.in-11.is in
     (s.requires.0, key_below 32 (11 ∷ 25 ∷ 27 ∷ []) _ refl o, (register_in s.args.at, words-odd s.args.at o))
 
 -- registers with a function of their own
-returns : tie.Need-returns
+returns : tie.Need-returns-in-0
 unfolding register_in register_at
 returns c =
-    let r = c.before.before in
-    let m = r.before.before in
-    let s = m.before.before.before in
-    (plain s 0 m.match.keys1 r.write-tcr.ensures, (r.write-tcr.ensures.kept.whole, s.requires.1.long))
+    let r = c in
+    let m = c in
+    let s = c.before.before.before.before.before.before.before in
+    (plain s 0 m.in-0.is r.write_tcr.ensures, (r.write_tcr.ensures.kept.whole, s.requires.1.long))
 
-returns-2 : tie.Need-returns-2
+returns-2 : tie.Need-returns-in-5
 unfolding register_in register_at
 returns-2 c =
-    let r = c.before.before in
-    let m = r.before.before in
-    let s = m.before.before.before in
-    (plain s 5 m.match.keys2 r.write-reserved.ensures, (r.write-reserved.ensures.kept.whole, s.requires.1.long))
+    let r = c in
+    let m = c in
+    let s = c.before.before.before.before.before.before.before in
+    (plain s 5 m.in-5.is r.write_reserved.ensures, (r.write_reserved.ensures.kept.whole, s.requires.1.long))
 
-returns-3 : tie.Need-returns-3
+returns-3 : tie.Need-returns-in-14
 unfolding register_in register_at
 returns-3 c =
-    let r = c.before.before in
-    let m = r.before.before in
-    let s = m.before.before.before in
-    (plain s 14 m.match.keys3 r.write-control.ensures, (r.write-control.ensures.kept.whole, s.requires.1.long))
+    let r = c in
+    let m = c in
+    let s = c.before.before.before.before.before.before.before in
+    (plain s 14 m.in-14.is r.write_control.ensures, (r.write_control.ensures.kept.whole, s.requires.1.long))
 
-returns-4 : tie.Need-returns-4
+returns-4 : tie.Need-returns-in-17
 unfolding register_in register_at
 returns-4 c =
-    let r = c.before.before in
-    let m = r.before.before in
-    let s = m.before.before.before in
-    (plain s 17 m.match.keys4 r.write-packet.ensures, (r.write-packet.ensures.kept.whole, s.requires.1.long))
+    let r = c in
+    let m = c in
+    let s = c.before.before.before.before.before.before.before in
+    (plain s 17 m.in-17.is r.write_packet.ensures, (r.write_packet.ensures.kept.whole, s.requires.1.long))
 
-returns-5 : tie.Need-returns-5
+returns-5 : tie.Need-returns-in-22
 unfolding register_in register_at
 returns-5 c =
-    let r = c.before.before.before.before in
-    let m = r.before.before.before in
-    let s = m.before.before.before in
-    let e = r.write-interrupt.ensures in
-    (reached s 22 m.match.keys5 e.0, e.1)
+    let r = c in
+    let m = c in
+    let s = c.before.before.before.before.before.before.before.before.before.before in
+    let e = r.write_interrupt.ensures in
+    (reached s 22 m.in-22.is e.0, e.1)
 
-returns-6 : tie.Need-returns-6
+returns-6 : tie.Need-returns-in-7
 unfolding register_in register_at
 returns-6 c =
-    let r = c.before.before in
-    let m = r.before.before in
-    let s = m.before.before.before in
-    let bank = by_key (λ (k : ℕ). rules.BANK ≡ register_in k) (7 ∷ 15 ∷ 23 ∷ 31 ∷ 39 ∷ 47 ∷ 55 ∷ 63 ∷ []) _ m.match.keys6 refl refl refl refl refl refl refl refl in
-    (plain s _ refl (subst (λ (x : rules.Register). Does (write_register x (lanes s) s.args.value) (words s) r.write-bank.result r.write-bank.new.0) bank r.write-bank.ensures), (r.write-bank.ensures.kept.whole, s.requires.1.long))
+    let r = c in
+    let m = c in
+    let s = c.before.before.before.before.before.before.before in
+    let bank = by_key (λ (k : ℕ). rules.BANK ≡ register_in k) (7 ∷ 15 ∷ 23 ∷ 31 ∷ 39 ∷ 47 ∷ 55 ∷ 63 ∷ []) _ m.in-7.is refl refl refl refl refl refl refl refl in
+    (plain s _ refl (subst (λ (x : rules.Register). Does (write_register x (lanes s) s.args.value) (words s) r.write_bank.result r.write_bank.new.words) bank r.write_bank.ensures), (r.write_bank.ensures.kept.whole, s.requires.1.long))
 
 -- refused
-returns-7 : tie.Need-returns-7
+returns-7 : tie.Need-returns-in-1
 unfolding register_in register_at
 returns-7 c =
     let s = c.before.before.before in
@@ -156,64 +156,64 @@ returns-7 c =
     let v = s.args.value in
     let w = words s in
     let k = s.requires.0 in
-    (plain s _ refl (by_key (λ (j : ℕ). Does (write_register (register_in j) p v) w ReadOnly w) (1 ∷ 3 ∷ 18 ∷ []) _ c.match.keys7 (writes_ephsr p v w k) (writes_ecr p v w k) (writes_heads p v w k)), (k.whole, s.requires.1.long))
+    (plain s _ refl (by_key (λ (j : ℕ). Does (write_register (register_in j) p v) w ReadOnly w) (1 ∷ 3 ∷ 18 ∷ []) _ c.in-1.is (writes_ephsr p v w k) (writes_ecr p v w k) (writes_heads p v w k)), (k.whole, s.requires.1.long))
 
-returns-8 : tie.Need-returns-8
+returns-8 : tie.Need-returns-in-4
 unfolding register_in register_at
 returns-8 c =
     let s = c.before.before.before in
     let w = words s in
-    (plain s _ refl (by_key (λ (j : ℕ). Does (write_register (register_in j) (lanes s) s.args.value) w ReadOnly w) (4 ∷ []) _ c.match.keys8 (writes_mir (lanes s) s.args.value w s.requires.0)), (s.requires.0.whole, s.requires.1.long))
+    (plain s _ refl (by_key (λ (j : ℕ). Does (write_register (register_in j) (lanes s) s.args.value) w ReadOnly w) (4 ∷ []) _ c.in-4.is (writes_mir (lanes s) s.args.value w s.requires.0)), (s.requires.0.whole, s.requires.1.long))
 
-returns-9 : tie.Need-returns-9
+returns-9 : tie.Need-returns-in-6
 unfolding register_in register_at
 returns-9 c =
     let s = c.before.before.before in
     let w = words s in
     let u = writes_absent (lanes s) s.args.value w s.requires.0 in
-    (plain s _ refl (by_key (λ (j : ℕ). Does (write_register (register_in j) (lanes s) s.args.value) w NotModelled w) (6 ∷ 8 ∷ 13 ∷ 28 ∷ 30 ∷ 32 ∷ 34 ∷ 36 ∷ 38 ∷ []) _ c.match.keys9 u u u u u u u u u), (s.requires.0.whole, s.requires.1.long))
+    (plain s _ refl (by_key (λ (j : ℕ). Does (write_register (register_in j) (lanes s) s.args.value) w NotModelled w) (6 ∷ 8 ∷ 13 ∷ 28 ∷ 30 ∷ 32 ∷ 34 ∷ 36 ∷ 38 ∷ []) _ c.in-6.is u u u u u u u u u), (s.requires.0.whole, s.requires.1.long))
 
-returns-10 : tie.Need-returns-10
+returns-10 : tie.Need-returns-in-9
 unfolding register_in register_at
 returns-10 c =
     let s = c.before.before.before in
     let w = words s in
     let u = writes_absent (lanes s) s.args.value w s.requires.0 in
-    (plain s _ refl (by_key (λ (j : ℕ). Does (write_register (register_in j) (lanes s) s.args.value) w NotModelled w) (9 ∷ 29 ∷ 33 ∷ 35 ∷ 37 ∷ []) _ c.match.keys10 u u u u u), (s.requires.0.whole, s.requires.1.long))
+    (plain s _ refl (by_key (λ (j : ℕ). Does (write_register (register_in j) (lanes s) s.args.value) w NotModelled w) (9 ∷ 29 ∷ 33 ∷ 35 ∷ 37 ∷ []) _ c.in-9.is u u u u u), (s.requires.0.whole, s.requires.1.long))
 
 -- the words
-returns-11 : tie.Need-returns-11
+returns-11 : tie.Need-returns-in-10
 returns-11 c =
-    let r = c.before.before in
-    let m = r.before.before in
-    let s = m.before.before.before in
-    let d = r.write_word.ensures.0 (register_in s.args.at) (words-even s.args.at m.match.keys11) in
+    let r = c in
+    let m = c in
+    let s = c.before.before.before.before.before.before.before in
+    let d = r.write_word.ensures.0 (register_in s.args.at) (words-even s.args.at m.in-10.is) in
     (plain s _ refl d, (d.kept.whole, s.requires.1.long))
 
-returns-12 : tie.Need-returns-12
+returns-12 : tie.Need-returns-in-11
 returns-12 c =
-    let r = c.before.before in
-    let m = r.before.before in
-    let s = m.before.before.before in
-    let d = r.write-word2.ensures.0 (register_in s.args.at) (words-odd s.args.at m.match.keys12) in
+    let r = c in
+    let m = c in
+    let s = c.before.before.before.before.before.before.before in
+    let d = r.write_word-in-11.ensures.0 (register_in s.args.at) (words-odd s.args.at m.in-11.is) in
     (plain s _ refl d, (d.kept.whole, s.requires.1.long))
 
 -- banks 5 to 7
-returns-13 : tie.Need-returns-13
+returns-13 : tie.Need-returns-in_default
 unfolding passed in_some member
 returns-13 c =
     let s = c.before.before.before in
     let below = place_below _ _ (words s) s.requires.0 s.requires.2 in
-    let unused = unused_left ((2 ∷ []) ∷ (16 ∷ []) ∷ arms) refl s.args.at (omega (arith, s.requires.3, below)) s.requires.4 ((c.match.rest, s.requires.6), s.requires.5) in
+    let unused = unused_left ((2 ∷ []) ∷ (16 ∷ []) ∷ arms) refl s.args.at (omega (arith, s.requires.3, below)) s.requires.4 ((c.in_default.in_default-own.rest, s.requires.6), s.requires.5) in
     (plain s _ refl (subst (λ (x : rules.Register). Does (write_register x (lanes s) s.args.value) (words s) (Done 0) (words s)) (sym unused) (writes_unused (lanes s) s.args.value (words s) s.requires.0)), (s.requires.0.whole, s.requires.1.long))
 
-pub write-register-spec : {M : Type 1} → statement M
-write-register-spec =
+pub write_register_spec : {M : Type 1} → statement M
+write_register_spec =
     tie.close
     (tie.spec
-    (λ c κs. c.before.before.before.before.requires.0)
+    (λ c κs. c.requires.0)
     (λ c κs. let s = c.before.before.before.before in (s.requires.0, s.requires.2))
-    (λ c κs. c.before.before.before.before.requires.0)
+    (λ c κs. c.requires.0)
     (λ c κs. let s = c.before.before.before.before in (s.requires.0, s.requires.2))
     (λ c κs. let s = c.before.before.before.before.before in (s.requires.0, s.requires.1, s.requires.2, s.requires.7))
     (λ c κs. let s = c.before.before.before.before in (s.requires.0, s.requires.2))

@@ -12,26 +12,26 @@ use Rattle.outcomes.proofs.Facts.{leaves}
 use Rattle.outcomes.proofs.after.after_send.Statement.{statement}
 use Rattle.outcomes.proofs.after.after_send.Tie as tie
 
-leave-tx-requires : tie.Need-leave-tx-requires
+leave-tx-requires : tie.Need-leave_tx-requires
 leave-tx-requires c κs =
-    let r = c.before.before.before.before in
-    let s = r.before.before.before.before in
-    let e = r.set-registers.ensures in
+    let r = c in
+    let s = c in
+    let e = r.set_registers.ensures in
     (e.kept, subst (λ (n : List ℕ). QueuesIn n s.args.queues.now) (sym e.still) s.requires.1, omega (arith, s.requires.2, ap (λ (n : List ℕ). word n 1) e.still))
 
 returns : tie.Need-returns
 returns c =
-    let l = c.before.before.before.before in
-    let r = l.before.before.before.before.before in
-    let s = r.before.before.before.before in
-    let e = r.set-registers.ensures in
-    let f = l.leave-tx.ensures in (
+    let l = c in
+    let r = c in
+    let s = c in
+    let e = r.set_registers.ensures in
+    let f = l.leave_tx.ensures in (
       f.0 ∙ ap (λ (n : List ℕ). get_or (queue_in 1 (word n 1) s.args.queues.now) 0 0) e.still,
       leaves s.args.good (send_of s.args.s) s.args.address s.requires.1 s.requires.2 e f.1,
     )
 
-pub after-send-spec : {M : Type 1} → statement M
-after-send-spec =
+pub after_send_spec : {M : Type 1} → statement M
+after_send_spec =
     tie.close
     (tie.spec
     (λ c κs. search rules)

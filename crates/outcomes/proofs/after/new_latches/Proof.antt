@@ -10,17 +10,17 @@ use Rattle.outcomes.proofs.Facts.{or_false, latch_set}
 use Rattle.outcomes.proofs.after.new_latches.Statement.{statement}
 use Rattle.outcomes.proofs.after.new_latches.Tie as tie
 
-returns : tie.Need-returns
+returns : tie.Need-returns-then-tx-ne1
 returns c =
-    let a = c.before.args in
-    (c.before.requires, (or_false (bit 2 a.latches) (ne_eqb a.tx 1 c.if1.true), refl))
+    let a = c.args in
+    (c.requires, (or_false (bit 2 a.latches) (ne_eqb a.tx 1 c.if-tx-ne1.true), refl))
 
-returns-2 : tie.Need-returns-2
+returns-2 : tie.Need-returns
 returns-2 c =
-    let s = c.before.before in
+    let s = c in
     let x = s.args.latches in
-    let e = c.with-set.ensures in
-    rw e (latch_set x s.requires, (bit_set 2 x ∙ sym (or_true (bit 2 x) (eq-eqb _ _ c.before.if1.false)), bit_set_other 2 x 4 (λ n. absurd (omega arith))))
+    let e = c.with_set.ensures in
+    rw e (latch_set x s.requires, (bit_set 2 x ∙ sym (or_true (bit 2 x) (eq-eqb _ _ c.if-tx-ne1.false)), bit_set_other 2 x 4 (λ n. absurd (omega arith))))
 
-pub new-latches-spec : {M : Type 1} → statement M
-new-latches-spec = tie.close (tie.spec returns (λ c κs. search rules) returns-2)
+pub new_latches_spec : {M : Type 1} → statement M
+new_latches_spec = tie.close (tie.spec returns (λ c κs. search rules) returns-2)

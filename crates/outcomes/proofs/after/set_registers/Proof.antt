@@ -8,19 +8,19 @@ use Rattle.outcomes.proofs.after.set_registers.Tie as tie
 
 returns : tie.Need-returns
 returns c =
-    let l = c.before in
-    let e = l.before.before.before in
-    let f = e.before in
-    let t = f.before.before in
-    let k = t.before.before in
-    let s = k.before.before.before in
+    let l = c in
+    let e = c in
+    let f = c in
+    let t = c in
+    let k = c in
+    let s = c in
     let a = s.args in
-    let latched = l.new-latches.ensures in
-    registers_set a.good (send_of a.s) a.address _ a.words.now s.requires.0 k.tallied.ensures.0 f.any-full.ensures t.new-tcr.ensures e.new-ephsr.ensures
-    c.new-ecr.ensures latched.0 latched.1.0 latched.1.1
+    let latched = l.new_latches-latches.ensures in
+    registers_set a.good (send_of a.s) a.address _ a.words.now s.requires.0 k.tallied-counts.ensures.0 f.any_full.ensures t.new_tcr-tcr.ensures e.new_ephsr-ephsr.ensures
+    c.new_ecr.ensures latched.0 latched.1.0 latched.1.1
 
-pub set-registers-spec : {M : Type 1} → statement M
-set-registers-spec =
+pub set_registers_spec : {M : Type 1} → statement M
+set_registers_spec =
     tie.close
     (tie.spec
     (λ c. search rules)

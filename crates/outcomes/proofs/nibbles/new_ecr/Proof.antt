@@ -9,7 +9,7 @@ returns : tie.Need-returns
 unfolding nibbles
 returns c = omega arith
 
-pub new-ecr-spec : {M : Type 1} → statement M
-new-ecr-spec =
+pub new_ecr_spec : {M : Type 1} → statement M
+new_ecr_spec =
     tie.close
     (tie.spec (λ c. search rules) (λ c. search rules) (λ c. search rules) (λ c. search rules) (λ c. search rules) (λ c. search rules) returns)

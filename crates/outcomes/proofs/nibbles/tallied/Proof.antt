@@ -11,17 +11,17 @@ use Rattle.outcomes.proofs.nibbles.tallied.Tie as tie
 returns : tie.Need-returns
 unfolding tally nibble
 returns c =
-    let d = c.before.before in
-    let b = d.before.before in
-    let a = b.before.before in
-    let g = a.before in
-    let e = a.counted.ensures.0 ∙ ap₂ rules.counted g.good-single.ensures (ap (λ (x : ℕ). x % 16) (sym (div-one g.before.args.ecr))) in (
-      rw (e, b.counted2.ensures.0, d.counted3.ensures.0, c.counted4.ensures.0),
-      record { single = a.counted.ensures.1; several = b.counted2.ensures.1; deferred = d.counted3.ensures.1; excessive = c.counted4.ensures.1 },
+    let d = c in
+    let b = c in
+    let a = c in
+    let g = c in
+    let e = a.counted.ensures.0 ∙ ap₂ rules.counted g.good_single-single.ensures (ap (λ (x : ℕ). x % 16) (sym (div-one g.args.ecr))) in (
+      rw (e, b.counted-2.ensures.0, d.counted-3.ensures.0, c.counted-4.ensures.0),
+      record { single = a.counted.ensures.1; several = b.counted-2.ensures.1; deferred = d.counted-3.ensures.1; excessive = c.counted-4.ensures.1 },
     )
 
-pub tallied-spec : {M : Type 1} → statement M
-tallied-spec =
+pub tallied_spec : {M : Type 1} → statement M
+tallied_spec =
     tie.close
     (tie.spec
     (λ c κs. search rules)

@@ -8,11 +8,11 @@ use Rattle.outcomes.proofs.status.new_ephsr.Tie as tie
 
 returns : tie.Need-returns
 returns c =
-    let r = c.before in
-    omega (arith, c.flag-of.ensures, ap flag r.roll-over.ensures, r.before.outcome-bits.ensures)
+    let r = c in
+    omega (arith, c.flag_of.ensures, ap flag r.roll_over.ensures, r.outcome_bits.ensures)
 
-pub new-ephsr-spec : {M : Type 1} → statement M
-new-ephsr-spec =
+pub new_ephsr_spec : {M : Type 1} → statement M
+new_ephsr_spec =
     tie.close
     (tie.spec
     (λ c κs. search rules)

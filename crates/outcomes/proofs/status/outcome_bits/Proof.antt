@@ -5,16 +5,16 @@ use Rattle.rules.specs.Send.{outcome_bits}
 use Rattle.outcomes.proofs.status.outcome_bits.Statement.{statement}
 use Rattle.outcomes.proofs.status.outcome_bits.Tie as tie
 
-returns : tie.Need-returns
+returns : tie.Need-returns-then-good
 unfolding outcome_bits
-returns c = rw c.before.before.if1.true (omega (arith, c.flag-of.ensures))
+returns c = rw c.if-good.true (omega (arith, c.flag_of.ensures))
 
-returns-2 : tie.Need-returns-2
+returns-2 : tie.Need-returns
 unfolding outcome_bits
-returns-2 c = rw c.before.before.if1.false (omega (arith, c.collision-bits.ensures, c.before.failure.ensures))
+returns-2 c = rw c.if-good.false (omega (arith, c.collision_bits.ensures, c.failure.ensures))
 
-pub outcome-bits-spec : {M : Type 1} → statement M
-outcome-bits-spec =
+pub outcome_bits_spec : {M : Type 1} → statement M
+outcome_bits_spec =
     tie.close
     (tie.spec
     (λ c κs. search rules)

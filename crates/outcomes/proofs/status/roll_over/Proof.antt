@@ -4,11 +4,11 @@ use mathlib.Core.Path.{sym, ◌∙◌}
 use Rattle.outcomes.proofs.status.roll_over.Statement.{statement}
 use Rattle.outcomes.proofs.status.roll_over.Tie as tie
 
-returns : tie.Need-returns
-returns c = rw (sym c.before.is_set.ensures ∙ c.if1.true)
+returns : tie.Need-returns-then-is_set
+returns c = rw (sym c.is_set.ensures ∙ c.if-is_set.true)
 
-returns-2 : tie.Need-returns-2
-returns-2 c = rw (sym c.before.is_set.ensures ∙ c.if1.false)
+returns-2 : tie.Need-returns
+returns-2 c = rw (sym c.is_set.ensures ∙ c.if-is_set.false)
 
-pub roll-over-spec : {M : Type 1} → statement M
-roll-over-spec = tie.close (tie.spec (λ c κs. search rules) returns returns-2)
+pub roll_over_spec : {M : Type 1} → statement M
+roll_over_spec = tie.close (tie.spec (λ c κs. search rules) returns returns-2)
