@@ -19,52 +19,52 @@ use Rattle.chip.proofs.entries.powered.Statement.{statement}
 use Rattle.chip.proofs.entries.powered.Tie as tie
 
 -- what is known where the places are cleared: the part's number, the words at reset, and that all places are 0
-module _ (x : tie.After-slice-known6) where
+module _ (x : tie.After-slice_known-6-1) where
   abbrev cleared : tie.After-cleared
   cleared = x.before.before
 
-  abbrev reset : tie.After-reset-words
+  abbrev reset : tie.After-reset_words
   reset = cleared.before.before.before.before
 
   abbrev zeroed : tie.After-zeroed
   zeroed = reset.before.before.before.before
 
-  abbrev packets : tie.After-packets-of
+  abbrev packets : tie.After-packets_of-n
   packets = zeroed.before.before
 
   abbrev start : tie.Start
   start = packets.before.before.before.before
 
   abbrev n : ℕ
-  n = packets.packets-of.result
+  n = packets.packets_of-n.result
 
   all-zero : cleared.cleared.last.0 ≡ replicate 24 0
-  all-zero = cleared_zeros (λ i. omega (arith, x.slice-known6.given i)) (cleared.cleared.ensures ∙ ap (λ (k : ℕ). replicate k []) start.pre.1)
+  all-zero = cleared_zeros (λ i. omega (arith, x.slice_known-6-1.given i)) (cleared.cleared.ensures ∙ ap (λ (k : ℕ). replicate k []) start.requires.1)
 
   fits : n ≤ length cleared.cleared.last.0
-  fits = omega (arith, packets.packets-of.ensures, part_few (is_a_part start.args.part), ap length all-zero)
+  fits = omega (arith, packets.packets_of-n.ensures, part_few (is_a_part start.args.part), ap length all-zero)
 
   many : n ≡ length (take n cleared.cleared.last.0)
   many = sym (length-take-le n cleared.cleared.last.0 fits)
 
   part : IsPart (length (take n cleared.cleared.last.0))
-  part = subst IsPart (sym packets.packets-of.ensures ∙ many) (is_a_part start.args.part)
+  part = subst IsPart (sym packets.packets_of-n.ensures ∙ many) (is_a_part start.args.part)
 
-  from_zero : WordsReset (replicate 32 0) reset.reset-words.last.0
-  from_zero = subst (λ (l : List ℕ). WordsReset l reset.reset-words.last.0) (zeroed.zeroed.ensures ∙ ap (λ (k : ℕ). replicate k 0) start.pre.0) reset.reset-words.ensures
+  from_zero : WordsReset (replicate 32 0) reset.reset_words.last.0
+  from_zero = subst (λ (l : List ℕ). WordsReset l reset.reset_words.last.0) (zeroed.zeroed.ensures ∙ ap (λ (k : ℕ). replicate k 0) start.requires.0) reset.reset_words.ensures
 
 returns : tie.Need-returns
 returns c =
-    let r = c.before.before.before.before.before.before in
-    let x = r.before.before.before.before in
+    let r = c in
+    let x = c.before.before.before.before.before.before.before.before.before.before in
     let p = packets_of (start x).args.part in
-    let size : length (take (n x) (cleared x).cleared.new.0) ≡ p = sym (many x) ∙ (packets x).packets-of.ensures in
-    let e = subst (λ (k : ℕ). Emptied k (reset x).reset-words.new.0 r.reset.new.0 r.reset.new.1.0 r.reset.new.1.1.0) size r.reset.ensures in
+    let size : length (take (n x) (cleared x).cleared.new.sets) ≡ p = sym (many x) ∙ (packets x).packets_of-n.ensures in
+    let e = subst (λ (k : ℕ). Emptied k (reset x).reset_words.new.0 r.reset.new.0 r.reset.new.1.0 r.reset.new.1.1.0) size r.reset.ensures in
     starts p e.sound (powers_up (from_zero x) e (zeros paged p))
-    (ap (λ (l : List ℕ). r.reset.new.1.0 ++ l) (ap₂ (λ (k : ℕ) (l : List ℕ). drop k l) (packets x).packets-of.ensures (all-zero x) ∙ zeros_behind (start x).args.part))
+    (ap (λ (l : List ℕ). r.reset.new.1.0 ++ l) (ap₂ (λ (k : ℕ) (l : List ℕ). drop k l) (packets x).packets_of-n.ensures (all-zero x) ∙ zeros_behind (start x).args.part))
 
-pub powered-spec : {M : Type 1} → statement M
-powered-spec =
+pub powered_spec : {M : Type 1} → statement M
+powered_spec =
     tie.close
     (tie.spec
     (λ c κs. search rules)
@@ -73,7 +73,7 @@ powered-spec =
     (λ c κs. search rules)
     (λ c. fits c.before)
     (λ c. many c.before.before)
-    (λ c κs. let x = c.before.before.before in ((reset x).reset-words.ensures.kept, part x, (start x).requires.2))
+    (λ c κs. let x = c.before.before.before in ((reset x).reset_words.ensures.kept, part x, (start x).requires.2))
     (λ c. search rules)
     (λ c. search rules)
     (λ c. search rules)

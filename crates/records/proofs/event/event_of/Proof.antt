@@ -11,47 +11,47 @@ use Rattle.records.proofs.event.event_of.Tie as tie
 abbrev Kind : tie.Start → ℕ → Type 0
 Kind s k = at s.args.bytes.now 0 ≡ k
 
-returns : tie.Need-returns
+returns : tie.Need-returns-in-1
 unfolding event_of
-returns c = let e : Kind c.before.before.before.before 1 = c.before.match.keys1 in rw e
+returns c = let e : Kind c.before.before.before.before 1 = c.in-1.is in rw e
 
-returns-2 : tie.Need-returns-2
+returns-2 : tie.Need-returns-in-2
 unfolding event_of
-returns-2 c = let e : Kind c.before.before.before.before 2 = c.before.match.keys2 in rw e
+returns-2 c = let e : Kind c.before.before.before.before 2 = c.in-2.is in rw e
 
-returns-3 : tie.Need-returns-3
+returns-3 : tie.Need-returns-in-3
 unfolding event_of
-returns-3 c = let e : Kind c.before.before.before.before.before.before.before 3 = c.before.before.before.before.match.keys3 in rw (e, c.word.ensures)
+returns-3 c = let e : Kind c.before.before.before.before.before.before.before 3 = c.in-3.is in rw (e, c.word.ensures)
 
-returns-4 : tie.Need-returns-4
+returns-4 : tie.Need-returns-in-4
 unfolding event_of
-returns-4 c = let e : Kind c.before.before.before.before.before.before.before 4 = c.before.before.before.before.match.keys4 in rw (e, c.word2.ensures)
+returns-4 c = let e : Kind c.before.before.before.before.before.before.before 4 = c.in-4.is in rw (e, c.word-in-4.ensures)
 
-returns-5 : tie.Need-returns-5
+returns-5 : tie.Need-returns-in-5
 unfolding event_of
-returns-5 c = let e : Kind c.before.before.before.before 5 = c.before.match.keys5 in rw e
+returns-5 c = let e : Kind c.before.before.before.before 5 = c.in-5.is in rw e
 
-returns-6 : tie.Need-returns-6
+returns-6 : tie.Need-returns-in-6
 unfolding event_of
-returns-6 c = let e : Kind c.before.before.before.before.before 6 = c.before.before.match.keys6 in rw (e, c.byte-is-set.ensures)
+returns-6 c = let e : Kind c.before.before.before.before.before 6 = c.in-6.is in rw (e, c.byte_is_set.ensures)
 
-returns-7 : tie.Need-returns-7
+returns-7 : tie.Need-returns-in-7
 unfolding event_of
-returns-7 c = let e : Kind c.before.before.before.before.before.before 7 = c.before.before.before.match.keys7 in rw e
+returns-7 c = let e : Kind c.before.before.before.before.before.before 7 = c.in-7.is in rw e
 
-returns-8 : tie.Need-returns-8
+returns-8 : tie.Need-returns-in-8
 unfolding event_of
-returns-8 c = let e : Kind c.before.before.before.before 8 = c.before.match.keys8 in rw e
+returns-8 c = let e : Kind c.before.before.before.before 8 = c.in-8.is in rw e
 
-returns-9 : tie.Need-returns-9
+returns-9 : tie.Need-returns-in-9
 unfolding event_of
-returns-9 c = let e : Kind c.before.before.before.before 9 = c.before.match.keys9 in rw e
+returns-9 c = let e : Kind c.before.before.before.before 9 = c.in-9.is in rw e
 
-returns-10 : tie.Need-returns-10
+returns-10 : tie.Need-returns-in_default
 unfolding event_of
 returns-10 c =
-    let k = at c.before.before.before.args.bytes.now 0 in
-    let n = c.match.rest in
+    let k = at c.args.bytes.now 0 in
+    let n = c.in_default.in_default-own.rest in
     rw (
       ne_eqb k 1 n.0.0.0.0.0.0.0.0.1,
       ne_eqb k 2 n.0.0.0.0.0.0.0.1,
@@ -64,8 +64,8 @@ returns-10 c =
       ne_eqb k 9 n.1,
     )
 
-pub event-of-spec : {M : Type 1} → statement M
-event-of-spec =
+pub event_of_spec : {M : Type 1} → statement M
+event_of_spec =
     tie.close
     (tie.spec
     (λ c. search rules)

@@ -7,5 +7,5 @@ use Rattle.records.proofs.event.is_send.Tie as tie
 returns : tie.Need-returns
 returns c = sym (send_kind _)
 
-pub is-send-spec : {M : Type 1} → statement M
-is-send-spec = tie.close (tie.spec (λ c. search rules) returns)
+pub is_send_spec : {M : Type 1} → statement M
+is_send_spec = tie.close (tie.spec (λ c. search rules) returns)

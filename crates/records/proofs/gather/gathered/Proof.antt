@@ -10,39 +10,39 @@ use Rattle.records.proofs.Answered.{too_few, too_many, too_long_lem, keeps, grow
 use Rattle.records.proofs.gather.gathered.Statement.{statement}
 use Rattle.records.proofs.gather.gathered.Tie as tie
 
-abbrev invariant-loop : tie.invariant-loop
+abbrev invariant-loop : tie.invariant-loop-i
 invariant-loop wire₀ have bytes count n i₀ wire i = (i ≤ n) × (wire ≡ paste wire₀ have (drop 2 bytes) i) × (length wire ≡ length wire₀)
 
-abbrev decreases-loop : tie.decreases-loop
+abbrev decreases-loop : tie.decreases-loop-i
 decreases-loop wire₀ have bytes count n i₀ wire i = n - i
 
-returns : tie.Need-returns invariant-loop decreases-loop
-returns c = let s = c.before in keeps s.args.wire.now s.args.have s.args.bytes.now s.args.count s.requires.1 (too_few _ _ _ c.if1.true)
+returns : tie.Need-returns-then-n-lt1 invariant-loop decreases-loop
+returns c = let s = c in keeps s.args.wire.now s.args.have s.args.bytes.now s.args.count s.requires.1 (too_few _ _ _ c.if-n-lt1.true)
 
-returns-2 : tie.Need-returns-2 invariant-loop decreases-loop
+returns-2 : tie.Need-returns-then-n-gt6 invariant-loop decreases-loop
 returns-2 c =
-    let s = c.before.before in
-    keeps s.args.wire.now s.args.have s.args.bytes.now s.args.count s.requires.1 (too_many _ _ _ c.before.if1.false c.if2.true)
+    let s = c in
+    keeps s.args.wire.now s.args.have s.args.bytes.now s.args.count s.requires.1 (too_many _ _ _ c.if-n-lt1.false c.if-n-gt6.true)
 
-returns-3 : tie.Need-returns-3 invariant-loop decreases-loop
+returns-3 : tie.Need-returns-then-have-n-gt2048 invariant-loop decreases-loop
 returns-3 c =
-    let s = c.before.before.before in
+    let s = c in
     let l : length (take s.args.have s.args.wire.now) ≡ s.args.have = length-take-le _ _ (omega (arith, s.requires.0, s.requires.1)) in
     keeps s.args.wire.now s.args.have s.args.bytes.now s.args.count s.requires.1
-    (too_long_lem _ _ _ c.before.before.if1.false c.before.if2.false (omega (arith, l, c.if3.true)))
+    (too_long_lem _ _ _ c.if-n-lt1.false c.if-n-gt6.false (omega (arith, l, c.if-have-n-gt2048.true)))
 
-loop-holds : tie.Need-loop-init invariant-loop decreases-loop
-loop-holds c = let s = c.before.before.before in (search rules, paste-zero s.args.wire.now s.args.have (drop 2 s.args.bytes.now), refl)
+loop-holds : tie.Need-loop-i-init invariant-loop decreases-loop
+loop-holds c = let s = c in (search rules, paste-zero s.args.wire.now s.args.have (drop 2 s.args.bytes.now), refl)
 
-loop-again : tie.Need-loop-preserved invariant-loop decreases-loop
+loop-again : tie.Need-loop-i-preserved invariant-loop decreases-loop
 loop-again c =
-    let b = c.before.before in
-    let s = b.before.before.before.before in
-    let v = b.loop.invariant in
-    let i = b.loop.i in
+    let b = c in
+    let s = c in
+    let v = b.loop-i.invariant in
+    let i = b.loop-i.i in
     let r = drop 2 s.args.bytes.now in
-    let h : s.args.have + i < length s.args.wire.now = omega (arith, c.before.loop-test.true, b.before.if3.false, s.requires.0) in
-    let k : i < length r = omega (arith, s.requires.2, length-drop 2 s.args.bytes.now, c.before.loop-test.true, b.before.before.if2.false) in (
+    let h : s.args.have + i < length s.args.wire.now = omega (arith, c.loop-i-test.true, b.if-have-n-gt2048.false, s.requires.0) in
+    let k : i < length r = omega (arith, s.requires.2, length-drop 2 s.args.bytes.now, c.loop-i-test.true, b.if-n-gt6.false) in (
       search rules,
       ap (λ (l : List ℕ). set l (s.args.have + i) (get_or s.args.bytes.now (2 + i) 0)) v.1
           ∙ ap (set (paste s.args.wire.now s.args.have r i) (s.args.have + i)) (sym (get_or-drop 2 s.args.bytes.now i 0))
@@ -51,21 +51,21 @@ loop-again c =
       simp length-set v.2,
     )
 
-same_length : tie.Need-same-length invariant-loop decreases-loop
-same_length c = c.before.loop.invariant.2
+same_length : tie.Need-shape_of-wire invariant-loop decreases-loop
+same_length c = c.loop-i.invariant.2
 
-returns-4 : tie.Need-returns-4 invariant-loop decreases-loop
+returns-4 : tie.Need-returns invariant-loop decreases-loop
 returns-4 c =
-    let b = c.before in
-    let s = b.before.before.before.before in
-    let v = b.loop.invariant in
-    let e : b.loop.i ≡ s.args.count = omega (arith, v.0, c.loop-test.false) in
+    let b = c in
+    let s = c in
+    let v = b.loop-i.invariant in
+    let e : b.loop-i.i ≡ s.args.count = omega (arith, v.0, c.loop-i-test.false) in
     grows s.args.wire.now s.args.have s.args.bytes.now s.args.count s.requires.0 (search rules)
-    b.before.before.before.if1.false b.before.before.if2.false b.before.if3.false _
+    b.if-n-lt1.false b.if-n-gt6.false b.if-have-n-gt2048.false _
     (v.1 ∙ ap (paste s.args.wire.now s.args.have (drop 2 s.args.bytes.now)) e)
 
-pub gathered-spec : {M : Type 1} → statement M
-gathered-spec =
+pub gathered_spec : {M : Type 1} → statement M
+gathered_spec =
     tie.close
     (tie.spec
     invariant-loop

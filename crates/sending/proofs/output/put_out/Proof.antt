@@ -7,16 +7,16 @@ use Rattle.sending.proofs.output.put_out.Tie as tie
 
 returns : tie.Need-returns
 returns c =
-    let p = c.before.before in
-    let o = p.before.before.before.before in
-    let l = o.before.before in
-    let r = l.before in
-    let x = r.before.before.before.args in
-    puts_data x.tcr x.count (pages_of x.pages) x.memory.now r.read_byte_lem.result l.send-length.result x.out.now r.read_byte_lem.ensures l.send-length.ensures.0 o.copy-out.ensures
-    p.end-out.ensures
+    let p = c in
+    let o = c in
+    let l = c in
+    let r = c in
+    let x = r.args in
+    puts_data x.tcr x.count (pages_of x.pages) x.memory.now r.read_byte-control.result l.send_length-len.result x.out.now r.read_byte-control.ensures l.send_length-len.ensures.0 o.copy_out.ensures
+    p.end_out.ensures
 
-pub put-out-spec : {M : Type 1} → statement M
-put-out-spec =
+pub put_out_spec : {M : Type 1} → statement M
+put_out_spec =
     tie.close
     (tie.spec
     (λ c. search rules)

@@ -11,41 +11,41 @@ use Rattle.strip_bytes.proofs.Facts.{strip_less}
 use Rattle.strip_output.proofs.address.is_broadcast.Statement.{statement}
 use Rattle.strip_output.proofs.address.is_broadcast.Tie as tie
 
-abbrev invariant-loop : tie.invariant-loop
+abbrev invariant-loop : tie.invariant-loop-at
 invariant-loop memory packet at₀ at =
     (at ≤ 10) × (broadcast (get_bytes 6 4 (strip_of packet.0) memory) ≡ ones 10 at (strip_of packet.0) memory)
 
-abbrev decreases-loop : tie.decreases-loop
+abbrev decreases-loop : tie.decreases-loop-at
 decreases-loop memory packet at₀ at = 10 - at
 
-loop-holds : tie.Need-loop-init invariant-loop decreases-loop
+loop-holds : tie.Need-loop-at-init invariant-loop decreases-loop
 unfolding broadcast
 loop-holds c = (search rules, refl)
 
-read-byte-requires : tie.Need-read-byte-requires invariant-loop decreases-loop
-read-byte-requires c κs = strip_less c.before.before.before.requires _ (omega (arith, c.loop-test.true))
+read-byte-requires : tie.Need-read_byte-requires invariant-loop decreases-loop
+read-byte-requires c κs = strip_less c.requires _ (omega (arith, c.loop-at-test.true))
 
-returns : tie.Need-returns invariant-loop decreases-loop
+returns : tie.Need-returns-then-read_byte invariant-loop decreases-loop
 returns c =
-    let l = c.before.before.before in
-    let s = l.before.before in
-    sym (l.loop.invariant.1 ∙ ones_not 10 l.loop.at c.before.before.loop-test.true (strip_of s.args.packet.0) s.args.memory.now (λ e. c.if1.true (c.before.read_byte_lem.ensures ∙ e)))
+    let l = c in
+    let s = c in
+    sym (l.loop-at.invariant.1 ∙ ones_not 10 l.loop-at.at c.loop-at-test.true (strip_of s.args.packet.0) s.args.memory.now (λ e. c.if-read_byte.true (c.read_byte.ensures ∙ e)))
 
-loop-again : tie.Need-loop-preserved invariant-loop decreases-loop
+loop-again : tie.Need-loop-at-preserved invariant-loop decreases-loop
 loop-again c =
-    let l = c.before.before.before in
-    let s = l.before.before in
-    (search rules, l.loop.invariant.1 ∙ ones_on 10 l.loop.at c.before.before.loop-test.true (strip_of s.args.packet.0) s.args.memory.now (sym c.before.read_byte_lem.ensures ∙ c.if1.false))
+    let l = c in
+    let s = c in
+    (search rules, l.loop-at.invariant.1 ∙ ones_on 10 l.loop-at.at c.loop-at-test.true (strip_of s.args.packet.0) s.args.memory.now (sym c.read_byte.ensures ∙ c.if-read_byte.false))
 
-returns-2 : tie.Need-returns-2 invariant-loop decreases-loop
+returns-2 : tie.Need-returns invariant-loop decreases-loop
 unfolding same_bytes get_bytes
 returns-2 c =
-    let l = c.before in
-    let e : 10 - l.loop.at ≡ 0 = omega (arith, c.loop-test.false) in
-    sym (l.loop.invariant.1 ∙ rw e)
+    let l = c in
+    let e : 10 - l.loop-at.at ≡ 0 = omega (arith, c.loop-at-test.false) in
+    sym (l.loop-at.invariant.1 ∙ rw e)
 
-pub is-broadcast-spec : {M : Type 1} → statement M
-is-broadcast-spec =
+pub is_broadcast_spec : {M : Type 1} → statement M
+is_broadcast_spec =
     tie.close
     (tie.spec
     invariant-loop

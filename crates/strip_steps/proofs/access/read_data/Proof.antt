@@ -22,9 +22,9 @@ use Rattle.strip_steps.specs.Data.{stops, stopped, not_past, in_pages, goes, som
 use Rattle.strip_steps.proofs.access.read_data.Statement.{statement}
 use Rattle.strip_steps.proofs.access.read_data.Tie as tie
 
-module _ (r : tie.After-is-refused) where
+module _ (r : tie.After-is_refused) where
   abbrev s : tie.Start
-  s = r.before.before.before.before.before.before.before.before.before.before
+  s = r.before.before.before.before.before.before.before.before.before
 
   abbrev width : ℕ
   width = width_of s.args.wide
@@ -37,62 +37,62 @@ module _ (r : tie.After-is-refused) where
 
   -- the packet, and the pages of it
   abbrev packet : ℕ
-  packet = r.before.before.before.before.meant.result.0
+  packet = r.meant-packet.result.0
 
   same-pages : get_or (strips_from 0 s.args.counts.now) packet [] ≡ pages
-  same-pages = ap (λ (k : ℕ). get_or (strips_from 0 s.args.counts.now) k []) r.before.before.before.before.meant.ensures
+  same-pages = ap (λ (k : ℕ). get_or (strips_from 0 s.args.counts.now) k []) r.meant-packet.ensures
 
-  counted : r.before.before.before.pages-of.result ≡ length pages
-  counted = r.before.before.before.pages-of.ensures.1 ∙ ap length same-pages
+  counted : r.pages_of-pages.result ≡ length pages
+  counted = r.pages_of-pages.ensures.1 ∙ ap length same-pages
 
-  has : not (eqb r.before.before.before.pages-of.result 0) ≡ some? pages
-  has = ap (λ (m : ℕ). not (eqb m 0)) r.before.before.before.pages-of.ensures.0 ∙ has_pages s.args.counts.now packet ∙ ap some? same-pages
+  has : not (eqb r.pages_of-pages.result 0) ≡ some? pages
+  has = ap (λ (m : ℕ). not (eqb m 0)) r.pages_of-pages.ensures.0 ∙ has_pages s.args.counts.now packet ∙ ap some? same-pages
 
-  told : r.is-refused.result ≡ stops true width pointer pages
+  told : r.is_refused.result ≡ stops true width pointer pages
   unfolding past
-  told = r.is-refused.ensures ∙ ap₂ (λ (m n : ℕ). against true pointer || (odd_fixed pointer || ltb (256 * m) (address pointer + n))) counted r.before.width_of_lem.ensures
+  told = r.is_refused.ensures ∙ ap₂ (λ (m n : ℕ). against true pointer || (odd_fixed pointer || ltb (256 * m) (address pointer + n))) counted r.width_of-width.ensures
 
   -- where it goes on
-  module _ (e : r.is-refused.result ≡ false) where
+  module _ (e : r.is_refused.result ≡ false) where
     inside : address pointer + width ≤ 256 * length (get_or (strips_from 0 s.args.counts.now) packet [])
     inside = omega (arith, in_pages true width pointer pages (sym told ∙ e), ap length same-pages)
 
-is-refused-requires : tie.Need-is-refused-requires
+is-refused-requires : tie.Need-is_refused-requires
 is-refused-requires c κs =
-    let p = c.before.before in
-    let s = p.before.before.before.before.before.before.before in
-    (omega (arith, p.pages-of.ensures.1, s.requires.0.well.pages.at_most p.before.meant.result.0), omega (arith, c.width_of_lem.ensures, few_width s.args.wide))
+    let p = c in
+    let s = c in
+    (omega (arith, p.pages_of-pages.ensures.1, s.requires.0.well.pages.at_most p.meant-packet.result.0), omega (arith, c.width_of-width.ensures, few_width s.args.wide))
 
 advance-requires : tie.Need-advance-requires
-advance-requires c κs = let r = c.before.before.before in ((s r).requires.0.sound.kept, omega (arith, r.before.width_of_lem.ensures, few_width (s r).args.wide))
+advance-requires c κs = let r = c.before.before.before in ((s r).requires.0.sound.kept, omega (arith, r.width_of-width.ensures, few_width (s r).args.wide))
 
-value-at-requires : tie.Need-value-at-requires
+value-at-requires : tie.Need-value_at-value-requires
 unfolding address
-value-at-requires c κs = let r = c.before in in_strip (s r).requires.0 (packet r) (width r) _ (s r).args.memory.now (inside r c.if1.false) (some_width (s r).args.wide) (s r).requires.1
+value-at-requires c κs = let r = c.before in in_strip (s r).requires.0 (packet r) (width r) _ (s r).args.memory.now (inside r c.if-is_refused.false) (some_width (s r).args.wide) (s r).requires.1
 
-returns : tie.Need-returns
+returns : tie.Need-returns-then-is_refused
 unfolding read_data
 returns c =
     let r = c.before.before in
-    makes_as (enters (s r).requires.0 (s r).args.memory.now true (width r) _ ∙ stopped true (width r) (pointer r) (pages r) _ _ (sym (told r) ∙ c.before.if1.true))
+    makes_as (enters (s r).requires.0 (s r).args.memory.now true (width r) _ ∙ stopped true (width r) (pointer r) (pages r) _ _ (sym (told r) ∙ c.if-is_refused.true))
     (record { chip = refl; reply = c.refusal.ensures ∙ ap (λ (b : Bool). rules.refusal (refusal_if b true (pointer r))) (has r); sound = (s r).requires.0.sound })
 
-returns-2 : tie.Need-returns-2
+returns-2 : tie.Need-returns
 unfolding read_data address
 returns-2 c =
-    let a = c.before.before in
-    let v = a.before.before in
-    let r = v.before.before in
-    let e = v.before.if1.false in
+    let a = c in
+    let v = c in
+    let r = c.before.before.before.before.before.before in
+    let e = v.if-is_refused.false in
     let o = sym (told r) ∙ e in
     let mem = (s r).args.memory.now in
     makes_as (enters (s r).requires.0 mem true (width r) _ ∙ goes true (width r) (pointer r) (pages r) _ _ (some_width (s r).args.wide) o)
     (reads (width r) (pages r) (s r).args.words.now (s r).args.counts.now (s r).args.queues.now mem (s r).requires.0.sound (not_past true (width r) (pointer r) (pages r) o)
-    (sets_as a.advance.ensures (ap (λ (n : ℕ). moves n (registers_in (s r).args.words.now)) r.before.width_of_lem.ensures)) _
-    (v.value-at.ensures ∙ ap value_of (strip_reads (s r).requires.0 (packet r) (width r) (address (pointer r)) mem (inside r e) ∙ ap (λ (l : List ℕ). get_bytes (width r) (address (pointer r)) l mem) (same-pages r))))
+    (sets_as a.advance.ensures (ap (λ (n : ℕ). moves n (registers_in (s r).args.words.now)) r.width_of-width.ensures)) _
+    (v.value_at-value.ensures ∙ ap value_of (strip_reads (s r).requires.0 (packet r) (width r) (address (pointer r)) mem (inside r e) ∙ ap (λ (l : List ℕ). get_bytes (width r) (address (pointer r)) l mem) (same-pages r))))
 
-pub read-data-spec : {M : Type 1} → statement M
-read-data-spec =
+pub read_data_spec : {M : Type 1} → statement M
+read_data_spec =
     tie.close
     (tie.spec
     (λ c κs. search rules)

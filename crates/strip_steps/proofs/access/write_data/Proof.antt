@@ -22,9 +22,9 @@ use Rattle.strip_steps.specs.Data.{stops, stopped, not_past, in_pages, goes, som
 use Rattle.strip_steps.proofs.access.write_data.Statement.{statement}
 use Rattle.strip_steps.proofs.access.write_data.Tie as tie
 
-module _ (r : tie.After-is-refused) where
+module _ (r : tie.After-is_refused) where
   abbrev s : tie.Start
-  s = r.before.before.before.before.before.before.before.before.before.before
+  s = r.before.before.before.before.before.before.before.before.before
 
   abbrev width : ℕ
   width = width_of s.args.wide
@@ -37,65 +37,65 @@ module _ (r : tie.After-is-refused) where
 
   -- the packet, and the pages of it
   abbrev packet : ℕ
-  packet = r.before.before.before.before.meant.result.0
+  packet = r.meant-packet.result.0
 
   same-pages : get_or (strips_from 0 s.args.counts.now) packet [] ≡ pages
-  same-pages = ap (λ (k : ℕ). get_or (strips_from 0 s.args.counts.now) k []) r.before.before.before.before.meant.ensures
+  same-pages = ap (λ (k : ℕ). get_or (strips_from 0 s.args.counts.now) k []) r.meant-packet.ensures
 
-  counted : r.before.before.before.pages-of.result ≡ length pages
-  counted = r.before.before.before.pages-of.ensures.1 ∙ ap length same-pages
+  counted : r.pages_of-pages.result ≡ length pages
+  counted = r.pages_of-pages.ensures.1 ∙ ap length same-pages
 
-  has : not (eqb r.before.before.before.pages-of.result 0) ≡ some? pages
-  has = ap (λ (m : ℕ). not (eqb m 0)) r.before.before.before.pages-of.ensures.0 ∙ has_pages s.args.counts.now packet ∙ ap some? same-pages
+  has : not (eqb r.pages_of-pages.result 0) ≡ some? pages
+  has = ap (λ (m : ℕ). not (eqb m 0)) r.pages_of-pages.ensures.0 ∙ has_pages s.args.counts.now packet ∙ ap some? same-pages
 
-  told : r.is-refused.result ≡ stops false width pointer pages
+  told : r.is_refused.result ≡ stops false width pointer pages
   unfolding past
-  told = r.is-refused.ensures ∙ ap₂ (λ (m n : ℕ). against false pointer || (odd_fixed pointer || ltb (256 * m) (address pointer + n))) counted r.before.width_of_lem.ensures
+  told = r.is_refused.ensures ∙ ap₂ (λ (m n : ℕ). against false pointer || (odd_fixed pointer || ltb (256 * m) (address pointer + n))) counted r.width_of-width.ensures
 
   -- where it goes on
-  module _ (e : r.is-refused.result ≡ false) where
+  module _ (e : r.is_refused.result ≡ false) where
     inside : address pointer + width ≤ 256 * length (get_or (strips_from 0 s.args.counts.now) packet [])
     inside = omega (arith, in_pages false width pointer pages (sym told ∙ e), ap length same-pages)
 
-is-refused-requires : tie.Need-is-refused-requires
+is-refused-requires : tie.Need-is_refused-requires
 is-refused-requires c κs =
-    let p = c.before.before in
-    let s = p.before.before.before.before.before.before.before in
-    (omega (arith, p.pages-of.ensures.1, s.requires.0.well.pages.at_most p.before.meant.result.0), omega (arith, c.width_of_lem.ensures, few_width s.args.wide))
+    let p = c in
+    let s = c in
+    (omega (arith, p.pages_of-pages.ensures.1, s.requires.0.well.pages.at_most p.meant-packet.result.0), omega (arith, c.width_of-width.ensures, few_width s.args.wide))
 
 advance-requires : tie.Need-advance-requires
-advance-requires c κs = let r = c.before.before.before.before.before.before in ((s r).requires.0.sound.kept, omega (arith, r.before.width_of_lem.ensures, few_width (s r).args.wide))
+advance-requires c κs = let r = c.before.before.before.before.before.before in ((s r).requires.0.sound.kept, omega (arith, r.width_of-width.ensures, few_width (s r).args.wide))
 
-put-at-requires : tie.Need-put-at-requires
+put-at-requires : tie.Need-put_at-requires
 unfolding address
-put-at-requires c κs = let r = c.before.before in in_strip (s r).requires.0 (packet r) (width r) _ (s r).args.memory.now (inside r c.before.if1.false) (some_width (s r).args.wide) (s r).requires.1
+put-at-requires c κs = let r = c.before.before in in_strip (s r).requires.0 (packet r) (width r) _ (s r).args.memory.now (inside r c.if-is_refused.false) (some_width (s r).args.wide) (s r).requires.1
 
-returns : tie.Need-returns
+returns : tie.Need-returns-then-is_refused
 unfolding write_data
 returns c =
     let r = c.before.before in
     let n = bytes_width (s r).args.wide (s r).args.value in
-    makes_as (enters (s r).requires.0 (s r).args.memory.now false (length (bytes_for (s r).args.wide (s r).args.value)) _ ∙ stopped false _ (pointer r) (pages r) _ _ (ap (λ (k : ℕ). stops false k (pointer r) (pages r)) n ∙ sym (told r) ∙ c.before.if1.true))
+    makes_as (enters (s r).requires.0 (s r).args.memory.now false (length (bytes_for (s r).args.wide (s r).args.value)) _ ∙ stopped false _ (pointer r) (pages r) _ _ (ap (λ (k : ℕ). stops false k (pointer r) (pages r)) n ∙ sym (told r) ∙ c.if-is_refused.true))
     (record { chip = refl; reply = c.refusal.ensures ∙ ap (λ (b : Bool). rules.refusal (refusal_if b false (pointer r))) (has r); sound = (s r).requires.0.sound })
 
-returns-2 : tie.Need-returns-2
+returns-2 : tie.Need-returns
 unfolding write_data address
 returns-2 c =
-    let a = c.before.before in
-    let p = a.before.before.before.before in
-    let r = p.before.before.before in
-    let e = p.before.before.if1.false in
+    let a = c in
+    let p = c in
+    let r = c.before.before.before.before.before.before.before.before.before in
+    let e = p.if-is_refused.false in
     let bytes = bytes_for (s r).args.wide (s r).args.value in
     let n = bytes_width (s r).args.wide (s r).args.value in
     let o = ap (λ (k : ℕ). stops false k (pointer r) (pages r)) n ∙ sym (told r) ∙ e in
     let mem = (s r).args.memory.now in
     makes_as (enters (s r).requires.0 mem false (length bytes) _ ∙ goes false (length bytes) (pointer r) (pages r) _ _ (omega (arith, n, some_width (s r).args.wide)) o)
     (writes bytes (pages r) (s r).args.words.now (s r).args.counts.now (s r).args.queues.now mem (s r).requires.0.sound (not_past false (length bytes) (pointer r) (pages r) o)
-    (sets_as a.advance.ensures (ap (λ (k : ℕ). moves k (registers_in (s r).args.words.now)) (r.before.width_of_lem.ensures ∙ sym n)))
-    (p.put-at.ensures ∙ strip_writes (s r).requires.0 (packet r) bytes (address (pointer r)) mem (omega (arith, inside r e, n)) ∙ ap (λ (l : List ℕ). put_bytes bytes (address (pointer r)) l mem) (same-pages r)))
+    (sets_as a.advance.ensures (ap (λ (k : ℕ). moves k (registers_in (s r).args.words.now)) (r.width_of-width.ensures ∙ sym n)))
+    (p.put_at.ensures ∙ strip_writes (s r).requires.0 (packet r) bytes (address (pointer r)) mem (omega (arith, inside r e, n)) ∙ ap (λ (l : List ℕ). put_bytes bytes (address (pointer r)) l mem) (same-pages r)))
 
-pub write-data-spec : {M : Type 1} → statement M
-write-data-spec =
+pub write_data_spec : {M : Type 1} → statement M
+write_data_spec =
     tie.close
     (tie.spec
     (λ c κs. search rules)

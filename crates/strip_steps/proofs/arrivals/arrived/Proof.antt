@@ -15,45 +15,45 @@ abbrev the_frame : tie.Start → Frame
 the_frame s = frame_of s.args.frame.now s.args.alignment
 
 -- where the verdict is known
-abbrev start : tie.After-judged → tie.Start
-start j = j.before.before.before.before.before.before.before.before
+abbrev start : tie.After-judged-verdict → tie.Start
+start j = j.before.before.before.before.before.before.before
 
-returns : tie.Need-returns
+returns : tie.Need-returns-then-frame-lt18
 returns c =
     let s = c.before.before.before.before.before.before in
-    rw (refuses s.requires.0 s.args.memory.now (the_frame s) c.if1.true) (stays s.requires.0 s.args.memory.now OutsideLimits)
+    rw (refuses s.requires.0 s.args.memory.now (the_frame s) c.if-frame-lt18.true) (stays s.requires.0 s.args.memory.now OutsideLimits)
 
-turned-away-requires : tie.Need-turned-away-requires
+turned-away-requires : tie.Need-turned_away-requires
 turned-away-requires c κs =
-    let t = c.before in
-    ((start t.before.before).requires.0.sound.kept, sym t.before.is_stored_lem.ensures ∙ not-true _ t.if2.true)
+    let t = c in
+    ((start c.before.before.before).requires.0.sound.kept, sym t.is_stored.ensures ∙ t.if-not-is_stored.true)
 
-returns-2 : tie.Need-returns-2
+returns-2 : tie.Need-returns-then-not-is_stored
 returns-2 c =
-    let f = c.before.before in
-    let t = f.before.before in
-    let j = t.before.before in
+    let f = c in
+    let t = c in
+    let j = c.before.before.before.before.before.before in
     let s = start j in
-    away s.pre.0 s.args.memory.now (the_frame s) j.before.before.if1.false j.judged.result j.judged.ensures (sym t.before.is_stored_lem.ensures ∙ not-true _ t.if2.true) f.turned-away.ensures
+    away s.requires.0 s.args.memory.now (the_frame s) j.if-frame-lt18.false j.judged-verdict.result j.judged-verdict.ensures (sym t.is_stored.ensures ∙ t.if-not-is_stored.true) f.turned_away.ensures
 
-to-stow : (t : tie.Else2) → let s = start t.before.before in StowableOf strips s.args.words.now s.args.counts.now s.args.queues.now (the_frame s)
+to-stow : (t : tie.Else-not-is_stored) → let s = start t.before.before in StowableOf strips s.args.words.now s.args.counts.now s.args.queues.now (the_frame s)
 to-stow t =
     let j = t.before.before in
     let s = start j in
-    stowable s.pre.0 s.args.memory.now (the_frame s) j.before.before.if1.false j.judged.result j.judged.ensures (sym t.before.is_stored_lem.ensures ∙ not-false _ t.if2.false)
+    stowable s.requires.0 s.args.memory.now (the_frame s) j.if-frame-lt18.false j.judged-verdict.result j.judged-verdict.ensures (sym t.is_stored.ensures ∙ t.if-not-is_stored.false)
 
 stowed-requires : tie.Need-stowed-requires
 stowed-requires c κs = let t = c.before.before.before.before in (to-stow t, (start t.before.before).requires.1)
 
-returns-3 : tie.Need-returns-3
+returns-3 : tie.Need-returns
 returns-3 c =
-    let f = c.before.before.before.before.before.before.before.before in
-    let t = f.before.before.before.before.before in
-    let s = start t.before.before in
-    kept s.pre.0 s.args.memory.now (the_frame s) (to-stow t) f.stowed.ensures
+    let f = c in
+    let t = c.before.before.before.before.before.before.before.before.before.before.before.before.before in
+    let s = start c.before.before.before.before.before.before.before.before.before.before.before.before.before.before.before in
+    kept s.requires.0 s.args.memory.now (the_frame s) (to-stow t) f.stowed.ensures
 
-pub arrived-spec : {M : Type 1} → statement M
-arrived-spec =
+pub arrived_spec : {M : Type 1} → statement M
+arrived_spec =
     tie.close
     (tie.spec
     returns

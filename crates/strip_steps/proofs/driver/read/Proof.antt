@@ -16,65 +16,65 @@ use Rattle.strip_steps.proofs.driver.read.Statement.{statement}
 use Rattle.strip_steps.proofs.driver.read.Tie as tie
 
 -- past the test for refusal 1
-abbrev start : tie.Else1 → tie.Start
+abbrev start : tie.Else-misplaced → tie.Start
 start e = e.before.before.before.before.before.before
 
-placed : (e : tie.Else1) → misplaced (width_of (start e).args.width) (start e).args.offset ≡ false
-placed e = sym e.before.misplaced.ensures ∙ e.if1.false
+placed : (e : tie.Else-misplaced) → misplaced (width_of (start e).args.width) (start e).args.offset ≡ false
+placed e = sym e.misplaced.ensures ∙ e.if-misplaced.false
 
 -- where its register stands
-abbrev else-at : tie.After-place → tie.Else1
-else-at d = d.before.before
+abbrev else-at : tie.After-place-at → tie.Else-misplaced
+else-at d = d.before
 
-returns : tie.Need-returns
-returns c = let s = c.before.before.before.before.before.before in read_nowhere _ _ s.requires.0.sound (sym c.before.misplaced.ensures ∙ c.if1.true)
+returns : tie.Need-returns-then-misplaced
+returns c = let s = c in read_nowhere _ _ s.requires.0.sound (sym c.misplaced.ensures ∙ c.if-misplaced.true)
 
 -- ECR
-read-ecr-requires : tie.Need-read-ecr-requires
+read-ecr-requires : tie.Need-read_ecr-requires
 read-ecr-requires c κs =
-    let m = c.before in
-    let e = else-at m.before in
+    let m = c in
+    let e = else-at c.before.before in
     let s = start e in
-    let o = s.pre.0.sound in
-    (o.kept, o.queues, placed e, sym m.before.place.ensures ∙ m.match.keys3, (strips, s.args.counts.now, o.sets))
+    let o = s.requires.0.sound in
+    (o.kept, o.queues, placed e, sym m.place-at.ensures ∙ m.in-3.is, (strips, s.args.counts.now, o.sets))
 
-returns-2 : tie.Need-returns-2
+returns-2 : tie.Need-returns-in-3
 returns-2 c =
-    let r = c.before.before in
-    let s = start (else-at r.before.before.before) in
-    r.read-ecr.ensures.0 strips s.args.counts.now s.args.memory.now s.pre.0.sound.sets
+    let r = c in
+    let s = start (else-at c.before.before.before.before.before) in
+    r.read_ecr.ensures.0 strips s.args.counts.now s.args.memory.now s.requires.0.sound.sets
 
 -- any other register
-read-register-requires : tie.Need-read-register-requires
+read-register-requires : tie.Need-read_register-requires
 read-register-requires c κs =
-    let m = c.before in
-    let n = m.match.rest in
-    let e = else-at m.before in
+    let m = c in
+    let n = m.in_default.in_default-own.rest in
+    let e = else-at c.before in
     let s = start e in
-    let o = s.pre.0.sound in
-    (o.kept, o.queues, placed e, m.before.place.ensures, (λ d. omega (arith, d, n.0.0.1, n.0.1)), n.1, (strips, s.args.counts.now, o.sets))
+    let o = s.requires.0.sound in
+    (o.kept, o.queues, placed e, m.place-at.ensures, (λ d. omega (arith, d, n.0.0.1, n.0.1)), n.1, (strips, s.args.counts.now, o.sets))
 
-returns-3 : tie.Need-returns-3
+returns-3 : tie.Need-returns-in_default
 returns-3 c =
-    let s = start (else-at c.before.before.before) in
-    c.read-register.ensures strips s.args.counts.now s.args.memory.now s.pre.0.sound.sets
+    let s = start (else-at c.before.before) in
+    c.read_register.ensures strips s.args.counts.now s.args.memory.now s.requires.0.sound.sets
 
 -- data
-at_its_place : (m : tie.At-match-branch) → let s = start (else-at m.before) in register_in (place_of s.args.words.now s.args.offset) ≡ DATA
+at_its_place : (m : tie.Joined-at) → let s = start (else-at m.before) in register_in (place_of s.args.words.now s.args.offset) ≡ DATA
 at_its_place m =
-    let a = m.before.place.result in
-    let here : a / 2 ≡ 10 = ⊎_elim (λ w. omega (arith, w.keys1)) (λ w. omega (arith, w.keys2)) m.match.branch in
-    sym (ap register_in m.before.place.ensures) ∙ at_data a here
+    let a = m.place-at.result in
+    let here : a / 2 ≡ 10 = ⊎_elim (λ w. omega (arith, w.keys1)) (λ w. omega (arith, w.keys2)) m.in_default.in_default-own.branch in
+    sym (ap register_in m.place-at.ensures) ∙ at_data a here
 
-returns-4 : tie.Need-returns-4
+returns-4 : tie.Need-returns
 returns-4 c =
-    let r = c.before.before in
-    let m = r.before.before.before in
-    let e = else-at m.before in
+    let r = c in
+    let m = c.before.before.before.before.before in
+    let e = else-at c.before.before.before.before.before.before in
     let s = start e in
     let c = view_of strips s.args.words.now s.args.counts.now s.args.queues.now s.args.memory.now in
-    read_there _ _ s.args.words.now s.args.counts.now s.args.queues.now s.args.memory.now s.pre.0.sound.kept (placed e)
-    (makes_as (ap (λ (x : Register). read_register x (lanes_at (width_of s.args.width) s.args.offset) c) (at_its_place m) ∙ reads_data s.args.width s.args.offset c) (rw r.before.is_IsWide.ensures at r.read-data.ensures))
+    read_there _ _ s.args.words.now s.args.counts.now s.args.queues.now s.args.memory.now s.requires.0.sound.kept (placed e)
+    (makes_as (ap (λ (x : Register). read_register x (lanes_at (width_of s.args.width) s.args.offset) c) (at_its_place m) ∙ reads_data s.args.width s.args.offset c) (rw r.is_IsWide.ensures at r.read_data.ensures))
 
 pub read_spec : {M : Type 1} → statement M
 read_spec =
@@ -84,12 +84,12 @@ read_spec =
     returns
     (λ c κs. search rules)
     read-ecr-requires
-    (λ c. let r = c.before.before in let e = else-at r.before.before.before in r.read-ecr.ensures.1 ∙ sym (start e).pre.0.sound.kept.whole)
+    (λ c. let r = c.before.before in let e = else-at r.before.before.before in r.read_ecr.ensures.1 ∙ sym (start e).requires.0.sound.kept.whole)
     returns-2
     read-register-requires
     (λ c. search rules)
     returns-3
     (λ c κs. search rules)
     (λ c κs. (start (else-at c.before.before.before)).requires)
-    (λ c. let r = c.before.before in let e = else-at r.before.before.before.before in r.read-data.ensures.sound.kept.whole ∙ sym (start e).pre.0.sound.kept.whole)
+    (λ c. let r = c.before.before in let e = else-at r.before.before.before.before in r.read_data.ensures.sound.kept.whole ∙ sym (start e).requires.0.sound.kept.whole)
     returns-4)

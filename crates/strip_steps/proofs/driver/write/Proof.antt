@@ -20,79 +20,79 @@ use Rattle.strip_steps.proofs.driver.write.Statement.{statement}
 use Rattle.strip_steps.proofs.driver.write.Tie as tie
 
 -- past the test for refusal 1
-abbrev start : tie.Else1 → tie.Start
+abbrev start : tie.Else-misplaced → tie.Start
 start e = e.before.before.before.before.before.before
 
-placed : (e : tie.Else1) → misplaced (width_of (start e).args.width) (start e).args.offset ≡ false
-placed e = sym e.before.misplaced.ensures ∙ e.if1.false
+placed : (e : tie.Else-misplaced) → misplaced (width_of (start e).args.width) (start e).args.offset ≡ false
+placed e = sym e.misplaced.ensures ∙ e.if-misplaced.false
 
 -- where its register stands
-abbrev else-at : tie.After-place → tie.Else1
-else-at d = d.before.before
+abbrev else-at : tie.After-place-at → tie.Else-misplaced
+else-at d = d.before
 
 abbrev place : tie.Start → ℕ
 place s = place_of s.args.words.now s.args.offset
 
 -- what is promised of a register is promised of the access, where it stands there
-there : (e : tie.Else1) (r : Register) {a : Answer} {w n q m : List ℕ} → let s = start e in register_in (place s) ≡ r
+there : (e : tie.Else-misplaced) (r : Register) {a : Answer} {w n q m : List ℕ} → let s = start e in register_in (place s) ≡ r
     → MakesOf strips (write_register r (lanes_at (width_of s.args.width) s.args.offset) s.args.value (view_of strips s.args.words.now s.args.counts.now s.args.queues.now s.args.memory.now)) a w n q m
     → MakesOf strips (access (rules.write (width_of s.args.width) s.args.offset s.args.value) (view_of strips s.args.words.now s.args.counts.now s.args.queues.now s.args.memory.now)) a w n q m
 there e r {a} {w} {n} {q} {m} x p =
     let s = start e in
     let c = view_of strips s.args.words.now s.args.counts.now s.args.queues.now s.args.memory.now in
-    write_there _ _ s.args.words.now s.args.counts.now s.args.queues.now s.args.memory.now s.pre.0.sound.kept _ (placed e)
+    write_there _ _ s.args.words.now s.args.counts.now s.args.queues.now s.args.memory.now s.requires.0.sound.kept _ (placed e)
     (subst (λ (y : Register). MakesOf strips (write_register y (lanes_at (width_of s.args.width) s.args.offset) s.args.value c) a w n q m) (sym x) p)
 
-returns : tie.Need-returns
-returns c = let s = c.before.before.before.before.before.before in write_nowhere _ _ _ s.requires.0.sound (sym c.before.misplaced.ensures ∙ c.if1.true)
+returns : tie.Need-returns-then-misplaced
+returns c = let s = c in write_nowhere _ _ _ s.requires.0.sound (sym c.misplaced.ensures ∙ c.if-misplaced.true)
 
 -- RCR, and commands
-returns-2 : tie.Need-returns-2
+returns-2 : tie.Need-returns-in-2
 unfolding register_in register_at
 returns-2 c =
-    let r = c.before.before.before.before.before.before in
-    let m = r.before.before.before.before in
-    let d = m.before in
+    let r = c in
+    let m = c in
+    let d = c.before.before.before.before.before.before.before.before.before.before.before in
     let e = else-at d in
-    there e RCR (sym (ap register_in d.place.ensures) ∙ ap register_in m.match.keys3) (r.write-rcr.ensures.0 (start e).args.memory.now)
+    there e RCR (sym (ap register_in d.place-at.ensures) ∙ ap register_in m.in-2.is) (r.write_rcr.ensures.0 (start e).args.memory.now)
 
-returns-3 : tie.Need-returns-3
+returns-3 : tie.Need-returns-in-16
 unfolding register_in register_at
 returns-3 c =
-    let r = c.before.before.before.before.before.before in
-    let m = r.before.before.before.before in
-    let d = m.before in
+    let r = c in
+    let m = c in
+    let d = c.before.before.before.before.before.before.before.before.before.before.before in
     let e = else-at d in
-    there e COMMAND (sym (ap register_in d.place.ensures) ∙ ap register_in m.match.keys4) (r.write-command.ensures (start e).args.memory.now)
+    there e COMMAND (sym (ap register_in d.place-at.ensures) ∙ ap register_in m.in-16.is) (r.write_command.ensures (start e).args.memory.now)
 
-write-register-requires : tie.Need-write-register-requires
+write-register-requires : tie.Need-write_register-requires
 write-register-requires c κs =
-    let m = c.before.before in
-    let n = m.match.rest in
-    let e = else-at m.before in
+    let m = c in
+    let n = m.in_default.in_default-own.rest in
+    let e = else-at c.before.before.before in
     let s = start e in
-    let o = s.pre.0.sound in
-    (o.kept, o.queues, placed e, m.before.place.ensures, (λ d. omega (arith, d, n.0.0.0.1, n.0.0.1)), n.0.1, n.1, (strips, s.args.counts.now, o.sets))
+    let o = s.requires.0.sound in
+    (o.kept, o.queues, placed e, m.place-at.ensures, (λ d. omega (arith, d, n.0.0.0.1, n.0.0.1)), n.0.1, n.1, (strips, s.args.counts.now, o.sets))
 
-returns-4 : tie.Need-returns-4
+returns-4 : tie.Need-returns-in_default
 returns-4 c =
-    let r = c.before.before.before.before in
-    let m = r.before.before.before in
-    let s = start (else-at m.before) in
-    r.write-register.ensures.0 strips s.args.counts.now s.args.memory.now s.pre.0.sound.sets
+    let r = c in
+    let m = c in
+    let s = start (else-at c.before.before.before.before.before.before.before.before) in
+    r.write_register.ensures.0 strips s.args.counts.now s.args.memory.now s.requires.0.sound.sets
 
 -- data
-returns-5 : tie.Need-returns-5
+returns-5 : tie.Need-returns
 returns-5 c =
-    let r = c.before.before.before.before in
-    let m = r.before.before.before.before.before.before in
-    let d = m.before in
+    let r = c in
+    let m = c in
+    let d = c.before.before.before.before.before.before.before.before.before in
     let e = else-at d in
     let s = start e in
-    let a = d.place.result in
-    let here : a / 2 ≡ 10 = ⊎_elim (λ w. omega (arith, w.keys1)) (λ w. omega (arith, w.keys2)) m.match.branch in
-    there e DATA (sym (ap register_in d.place.ensures) ∙ at_data a here)
-    (makes_as (writes_data s.args.width s.args.offset s.args.value _) (rw r.before.is_IsWide.ensures at r.write-data.ensures))
+    let a = d.place-at.result in
+    let here : a / 2 ≡ 10 = ⊎_elim (λ w. omega (arith, w.keys1)) (λ w. omega (arith, w.keys2)) m.in_default.in_default-own.branch in
+    there e DATA (sym (ap register_in d.place-at.ensures) ∙ at_data a here)
+    (makes_as (writes_data s.args.width s.args.offset s.args.value _) (rw r.is_IsWide.ensures at r.write_data.ensures))
 
 pub write_spec : {M : Type 1} → statement M
 write_spec =
@@ -106,7 +106,7 @@ write_spec =
     (λ c. search rules)
     (λ c. search rules)
     returns-2
-    (λ c κs. let e = else-at c.before.before.before.before in ((start e).pre.0, placed e))
+    (λ c κs. let e = else-at c.before.before.before.before in ((start e).requires.0, placed e))
     (λ c. search rules)
     (λ c. search rules)
     (λ c. search rules)
@@ -116,7 +116,7 @@ write_spec =
     (λ c. search rules)
     returns-4
     (λ c κs. search rules)
-    (λ c κs. (start (else-at c.before.before.before.before.before.before)).requires)
+    (λ c κs. (start (else-at c.before.before.before.before)).requires)
     (λ c. search rules)
     (λ c. search rules)
     (λ c. search rules)

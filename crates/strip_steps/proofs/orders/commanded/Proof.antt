@@ -18,75 +18,75 @@ use borrow.Author.Rules.{rules}
 use Rattle.strip_steps.proofs.orders.commanded.Statement.{statement}
 use Rattle.strip_steps.proofs.orders.commanded.Tie as tie
 
-ready : (d : tie.After-decoded) → let s = d.before.before.before.before.args in ReadyOf strips s.words.now s.counts.now s.queues.now
-ready d = d.before.before.before.before.requires
+ready : (d : tie.After-decoded-order) → let s = d.args in ReadyOf strips s.words.now s.counts.now s.queues.now
+ready d = d.requires
 
 -- what is promised of the command k
-abbrev Does : tie.After-decoded → Command → Answer → List ℕ → List ℕ → List ℕ → Type 0
-Does d k = let s = d.before.before.before.before.args in PerformsOf strips k s.words.now s.counts.now s.queues.now
+abbrev Does : tie.After-decoded-order → Command → Answer → List ℕ → List ℕ → List ℕ → Type 0
+Does d k = let s = d.args in PerformsOf strips k s.words.now s.counts.now s.queues.now
 
 -- the order at hand is the command of the value
-as-told : (d : tie.After-decoded) {o : Order} {a : Answer} {w' s' q' : List ℕ} → d.decoded.result ≡ o → Does d (command_of o) a w' s' q' → Does d (decode d.before.before.before.before.args.value) a w' s' q'
-as-told d {o} {a} {w'} {s'} {q'} e p = subst (λ (k : Command). Does d k a w' s' q') (sym (ap command_of e) ∙ d.decoded.ensures) p
+as-told : (d : tie.After-decoded-order) {o : Order} {a : Answer} {w' s' q' : List ℕ} → d.decoded-order.result ≡ o → Does d (command_of o) a w' s' q' → Does d (decode d.args.value) a w' s' q'
+as-told d {o} {a} {w'} {s'} {q'} e p = subst (λ (k : Command). Does d k a w' s' q') (sym (ap command_of e) ∙ d.decoded-order.ensures) p
 
-do-allocate-requires : tie.Need-do-allocate-requires
+do-allocate-requires : tie.Need-do_allocate-requires
 do-allocate-requires c κs =
-    let o = c.before.before.before in
-    let d = o.before.before in
-    let s = d.before.before.before.before in
-    let v = subst Valid (sym d.decoded.ensures ∙ ap command_of o.order.given.1) (decode_valid s.args.value) in
+    let o = c in
+    let d = c in
+    let s = c in
+    let v = subst Valid (sym d.decoded-order.ensures ∙ ap command_of o.in-Allocate.is) (decode_valid s.args.value) in
     (v.0, v.1, s.requires.sound.kept, s.requires.sound.sets, good_lists s.requires.well)
 
-do-release-requires : tie.Need-do-release-requires
-do-release-requires c κs = let s = c.before.before.before.before.before.before.before.before in (s.requires.sound.kept, s.requires.sound.sets, good_lists s.requires.well, waits_few s.requires)
+do-release-requires : tie.Need-do_release-requires
+do-release-requires c κs = let s = c in (s.requires.sound.kept, s.requires.sound.sets, good_lists s.requires.well, waits_few s.requires)
 
-returns : tie.Need-returns
+returns : tie.Need-returns-in-Nothing
 unfolding perform
-returns c = let d = c.before.before in as-told d c.enum_told.given.1 (λ mem. unchanged rules.nothing _ _ _ mem (answer.Done 0) (ready d).sound refl)
+returns c = let d = c.before in as-told d c.in-Nothing.is (λ mem. unchanged rules.nothing _ _ _ mem (answer.Done 0) (ready d).sound refl)
 
-returns-2 : tie.Need-returns-2
+returns-2 : tie.Need-returns-in-Allocate
 returns-2 c =
-    let a = c.before.before.before.before in
-    let o = a.before.before.before.before in
-    let d = o.before.before in
-    as-told d o.order.given.1 (a.do-allocate.ensures _ (ready d).sound.queues)
+    let a = c in
+    let o = c in
+    let d = c.before.before.before.before.before.before.before.before in
+    as-told d o.in-Allocate.is (a.do_allocate.ensures _ (ready d).sound.queues)
 
-returns-3 : tie.Need-returns-3
-returns-3 c = let a = c.before.before.before.before.before.before in let t = a.before.before.before.before in as-told t.before.before t.enum-told2.given.1 a.do-reset.ensures
+returns-3 : tie.Need-returns-in-Reset
+returns-3 c = let a = c in let t = c in as-told c.before.before.before.before.before.before.before.before.before.before.before t.in-Reset.is a.do_reset.ensures
 
-returns-4 : tie.Need-returns-4
+returns-4 : tie.Need-returns-in-RemoveRx
 returns-4 c =
-    let a = c.before.before.before.before in
-    let t = a.before.before.before in
-    let d = t.before.before in
-    as-told d t.enum-told3.given.1 (a.do-remove.ensures strips _ (ready d).sound.sets)
+    let a = c in
+    let t = c in
+    let d = c.before.before.before.before.before.before.before.before in
+    as-told d t.in-RemoveRx.is (a.do_remove.ensures strips _ (ready d).sound.sets)
 
-returns-5 : tie.Need-returns-5
-returns-5 c = let a = c.before.before.before.before.before.before in let t = a.before.before.before.before in as-told t.before.before t.enum-told4.given.1 a.do-remove-and-release.ensures
+returns-5 : tie.Need-returns-in-RemoveAndRelease
+returns-5 c = let a = c in let t = c in as-told c.before.before.before.before.before.before.before.before.before.before.before t.in-RemoveAndRelease.is a.do_remove_and_release.ensures
 
-returns-6 : tie.Need-returns-6
+returns-6 : tie.Need-returns-in-Release
 returns-6 c =
-    let a = c.before.before.before.before in
-    let t = a.before.before.before in
-    let d = t.before.before in
-    as-told d t.enum-told5.given.1 (a.do-release.ensures _ (ready d))
+    let a = c in
+    let t = c in
+    let d = c.before.before.before.before.before.before.before.before in
+    as-told d t.in-Release.is (a.do_release.ensures _ (ready d))
 
-returns-7 : tie.Need-returns-7
-returns-7 c = let a = c.before.before.before.before in let t = a.before.before.before.before in as-told t.before.before t.enum-told6.given.1 a.do-enqueue.ensures
+returns-7 : tie.Need-returns-in-Enqueue
+returns-7 c = let a = c in let t = c in as-told c.before.before.before.before.before.before.before.before t.in-Enqueue.is a.do_enqueue.ensures
 
-returns-8 : tie.Need-returns-8
+returns-8 : tie.Need-returns-in-ResetTx
 returns-8 c =
-    let a = c.before.before.before.before in
-    let t = a.before.before.before in
-    let d = t.before.before in
-    as-told d t.enum-told7.given.1 (a.do-reset-tx.ensures strips _ (ready d).sound.sets)
+    let a = c in
+    let t = c in
+    let d = c.before.before.before.before.before.before.before.before in
+    as-told d t.in-ResetTx.is (a.do_reset_tx.ensures strips _ (ready d).sound.sets)
 
-returns-9 : tie.Need-returns-9
+returns-9 : tie.Need-returns-in-Unknown
 unfolding perform
-returns-9 c = let d = c.before.before in as-told d c.enum-told8.given.1 (λ mem. unchanged rules.unknown _ _ _ mem answer.Reserved (ready d).sound refl)
+returns-9 c = let d = c.before in as-told d c.in-Unknown.is (λ mem. unchanged rules.unknown _ _ _ mem answer.Reserved (ready d).sound refl)
 
-pub commanded-spec : {M : Type 1} → statement M
-commanded-spec =
+pub commanded_spec : {M : Type 1} → statement M
+commanded_spec =
     tie.close
     (tie.spec
     (λ c κs. search rules)

@@ -14,40 +14,40 @@ use Rattle.strip_steps.proofs.orders.do_allocate.Statement.{statement}
 use Rattle.strip_steps.proofs.orders.do_allocate.Tie as tie
 
 -- the free pages that the words count are those of the chip
-counted : (c : tie.After-free-count) → let ls = strips_from 0 c.before.before.before.before.args.counts.now in c.free-count.result ≡ length (free_for strips ls)
+counted : (c : tie.After-free_count) → let ls = strips_from 0 c.args.counts.now in c.free_count.result ≡ length (free_for strips ls)
 counted c =
-    let s = c.before.before.before.before in
-    c.free-count.ensures ∙ free_told s.args.words.now s.args.counts.now s.requires.3
+    let s = c in
+    c.free_count.ensures ∙ free_told s.args.words.now s.args.counts.now s.requires.3
 
 allocate-requires : tie.Need-allocate-requires
 allocate-requires c κs =
-    let s = c.before.before.before.before.before.before.before in
-    (s.requires.2, s.requires.3, s.requires.4, s.requires.0, s.requires.1, omega (arith, c.before.before.before.free-count.ensures, free_told s.args.words.now s.args.counts.now s.requires.3, c.before.before.if1.true))
+    let s = c in
+    (s.requires.2, s.requires.3, s.requires.4, s.requires.0, s.requires.1, omega (arith, c.free_count.ensures, free_told s.args.words.now s.args.counts.now s.requires.3, c.if-need-free_count.true))
 
-returns : tie.Need-returns
+returns : tie.Need-returns-then-need-free_count
 returns c = λ q h mem.
-    let s = c.before.before.before.before.before.before.before.before.before.before.before.before in
+    let s = c in
     let w = s.args.words.now in
     let ss = s.args.counts.now in
     let n = s.args.need in
-    let a = c.before.before.before.before.allocate.ensures in
-    performs (rules.allocate n) w ss q mem (rules.grant n) (allocates (view_of strips w ss q mem) n (omega (arith, counted c.before.before.before.before.before.before.before.before, c.before.before.before.before.before.before.before.if1.true))) (a.chip q mem) (alters_sound a q h)
+    let a = c.allocate.ensures in
+    performs (rules.allocate n) w ss q mem (rules.grant n) (allocates (view_of strips w ss q mem) n (omega (arith, counted c.before.before.before.before.before.before.before.before, c.if-need-free_count.true))) (a.chip q mem) (alters_sound a q h)
 
-cast-give-result : tie.Need-overflow-cast-give-result
-cast-give-result c = record { fits = omega (arith, c.before.before.before.before.before.before.requires.1) }
+cast-give-result : tie.Need-overflow_cast-need
+cast-give-result c = record { fits = omega (arith, c.requires.1) }
 
-returns-2 : tie.Need-returns-2
+returns-2 : tie.Need-returns
 returns-2 c = λ q h mem.
-    let s = c.before.before.before.before.before.before.before.before.before in
+    let s = c in
     let w = s.args.words.now in
     let ss = s.args.counts.now in
     let n = s.args.need in
-    let g = c.before.before.give-result.ensures in
-    performs (rules.allocate n) w ss q mem (rules.pend n) (allocates_none (view_of strips w ss q mem) n (omega (arith, counted c.before.before.before.before.before, c.before.before.before.before.if1.false)))
+    let g = c.give_result.ensures in
+    performs (rules.allocate n) w ss q mem (rules.pend n) (allocates_none (view_of strips w ss q mem) n (omega (arith, counted c.before.before.before.before.before, c.if-need-free_count.false)))
     (sets_chip g strips ss q mem) (sets_sound g (record { kept = s.requires.2; queues = h; sets = s.requires.3 }))
 
-pub do-allocate-spec : {M : Type 1} → statement M
-do-allocate-spec =
+pub do_allocate_spec : {M : Type 1} → statement M
+do_allocate_spec =
     tie.close
     (tie.spec
     (λ c κs. search rules)

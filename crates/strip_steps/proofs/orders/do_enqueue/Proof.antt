@@ -26,68 +26,68 @@ abbrev after : Chip → Chip
 after x = in_pool (set_tx (x.pool.tx ++ (x.regs.numbers.packet ∷ []))) x
 
 -- the packet has pages, so its number is one of the part's
-there : (c : tie.Else1) → some? (get_or (strips_from 0 c.before.before.before.before.before.before.before.args.counts.now) c.before.before.named.result.0 []) ≡ true
-there c = sym c.before.is-allocated.ensures ∙ not-false _ c.if1.false
+there : (c : tie.Else-not-is_allocated) → some? (get_or (strips_from 0 c.args.counts.now) c.named-packet.result.0 []) ≡ true
+there c = sym c.is_allocated.ensures ∙ c.if-not-is_allocated.false
 
-small : (c : tie.Else1) → c.before.before.named.result.0 < 24
+small : (c : tie.Else-not-is_allocated) → c.named-packet.result.0 < 24
 small c =
-    let s = c.before.before.before.before.before.before.before in
+    let s = c in
     omega (arith, packet_small_lem (view_of strips s.args.words.now s.args.counts.now s.args.queues.now []) s.requires.well _ (there c), part_few s.requires.sound.sets.part)
 
-returns : tie.Need-returns
+returns : tie.Need-returns-then-not-is_allocated
 returns c =
-    let a = c.before in
-    let n = a.before in
-    refuses_5 strips rules.enqueue (λ x. did (after x)) enqueues _ _ _ _ n.named.ensures n.before.before.before.before.before.requires.sound (sym a.is-allocated.ensures ∙ not-true _ c.if1.true)
+    let a = c in
+    let n = c in
+    refuses_5 strips rules.enqueue (λ x. did (after x)) enqueues _ _ _ _ n.named-packet.ensures n.requires.sound (sym a.is_allocated.ensures ∙ c.if-not-is_allocated.true)
 
-is-queued-requires : tie.Need-is-queued-requires
+is-queued-requires : tie.Need-is_queued-requires
 is-queued-requires c κs =
-    let e = c.before in
-    (e.before.before.before.before.before.before.before.requires.sound.kept.whole, omega (arith, small e))
+    let e = c in
+    (e.requires.sound.kept.whole, omega (arith, small e))
 
 -- it is in RX or TX as the words say
-told : (c : tie.After-is-queued) → let n = c.before.before.before.before in let a = n.before.before.before.before.before.args in let k = n.named.result.0 in
-    c.is-queued.result ≡ member k (queue_in 0 (word a.words.now 6) a.queues.now) || member k (queue_in 1 (word a.words.now 8) a.queues.now)
-told c = let s = c.before.before.before.before.before.before.before.before.before in c.is-queued.ensures ∙ queued_told s.requires _
+told : (c : tie.After-is_queued) → let n = c in let a = n.args in let k = n.named-packet.result.0 in
+    c.is_queued.result ≡ member k (queue_in 0 (word a.words.now 6) a.queues.now) || member k (queue_in 1 (word a.words.now 8) a.queues.now)
+told c = let s = c in c.is_queued.ensures ∙ queued_told s.requires _
 
-returns-2 : tie.Need-returns-2
+returns-2 : tie.Need-returns-then-is_queued
 returns-2 c =
     let i = c.before in
-    let e = i.before.before in
-    let n = e.before.before in
-    refuses_6 strips rules.enqueue (λ x. did (after x)) enqueues _ _ _ _ n.named.ensures n.before.before.before.before.before.requires.sound (there e) (told i) c.if2.true
+    let e = c.before.before in
+    let n = c in
+    refuses_6 strips rules.enqueue (λ x. did (after x)) enqueues _ _ _ _ n.named-packet.ensures n.requires.sound (there e) (told i) c.if-is_queued.true
 
-join-tx-requires : tie.Need-join-tx-requires
+join-tx-requires : tie.Need-join_tx-requires
 join-tx-requires c κs =
-    let f = c.before.before in
-    let i = f.before in
-    let e = i.before.before in
-    let n = e.before.before in
-    let s = n.before.before.before.before.before in
+    let f = c in
+    let i = c.before.before.before in
+    let e = c.before.before.before.before in
+    let n = c in
+    let s = c in
     let v = view_of strips s.args.words.now s.args.counts.now s.args.queues.now [] in
-    let k = n.named.result.0 in
-    let room = tx_room v s.requires.well k (there e) (told i) f.if2.false in
-    let absent = or_right (member k v.pool.rx) (member k v.pool.tx) (sym (told i) ∙ f.if2.false) in
+    let k = n.named-packet.result.0 in
+    let room = tx_room v s.requires.well k (there e) (told i) f.if-is_queued.false in
+    let absent = or_right (member k v.pool.rx) (member k v.pool.tx) (sym (told i) ∙ f.if-is_queued.false) in
     (s.requires.sound.kept, s.requires.sound.queues, omega (arith, room, part_few s.requires.sound.sets.part, s.requires.sound.queues.tx.many), may_join_tx s.requires k (small e) absent)
 
-returns-3 : tie.Need-returns-3
+returns-3 : tie.Need-returns
 returns-3 c = λ mem.
-    let j = c.before.before.before.before in
-    let f = j.before.before.before in
-    let i = f.before in
-    let e = i.before.before in
-    let n = e.before.before in
-    let s = n.before.before.before.before.before in
+    let j = c in
+    let f = c in
+    let i = c.before.before.before.before.before.before.before.before in
+    let e = c.before.before.before.before.before.before.before.before.before in
+    let n = c in
+    let s = c in
     let w = s.args.words.now in
     let ss = s.args.counts.now in
     let q = s.args.queues.now in
     performs rules.enqueue w ss q mem after
-    (goes_ahead strips rules.enqueue (λ x. did (after x)) enqueues w ss q _ n.named.ensures (there e) (told i) f.if2.false mem)
-    (rejoins_chip j.join-tx.ensures strips ss mem ∙ ap (λ (k : ℕ). in_pool (set_tx (queue_in 1 (word w 8) q ++ (k ∷ []))) (view_of strips w ss q mem)) n.named.ensures)
-    (rejoins_sound j.join-tx.ensures s.requires.sound.sets)
+    (goes_ahead strips rules.enqueue (λ x. did (after x)) enqueues w ss q _ n.named-packet.ensures (there e) (told i) f.if-is_queued.false mem)
+    (rejoins_chip j.join_tx.ensures strips ss mem ∙ ap (λ (k : ℕ). in_pool (set_tx (queue_in 1 (word w 8) q ++ (k ∷ []))) (view_of strips w ss q mem)) n.named-packet.ensures)
+    (rejoins_sound j.join_tx.ensures s.requires.sound.sets)
 
-pub do-enqueue-spec : {M : Type 1} → statement M
-do-enqueue-spec =
+pub do_enqueue_spec : {M : Type 1} → statement M
+do_enqueue_spec =
     tie.close
     (tie.spec
     (λ c κs. search rules)

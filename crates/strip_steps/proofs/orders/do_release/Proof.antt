@@ -26,55 +26,55 @@ abbrev after : Chip → Chip
 after x = rules.give_back x.regs.numbers.packet x
 
 -- the packet has pages, so its number is one of the part's
-there : (c : tie.Else1) → some? (get_or (strips_from 0 c.before.before.before.before.before.before.before.args.counts.now) c.before.before.before.named.result.0 []) ≡ true
-there c = sym c.before.is-allocated.ensures ∙ not-false _ c.if1.false
+there : (c : tie.Else-not-is_allocated) → some? (get_or (strips_from 0 c.args.counts.now) c.named-packet.result.0 []) ≡ true
+there c = sym c.is_allocated.ensures ∙ c.if-not-is_allocated.false
 
-small : (c : tie.Else1) → c.before.before.before.named.result.0 < length c.before.before.before.before.before.before.before.args.counts.now
+small : (c : tie.Else-not-is_allocated) → c.named-packet.result.0 < length c.args.counts.now
 small c =
-    let s = c.before.before.before.before.before.before.before in
+    let s = c in
     omega (arith, has_small (strips_from 0 s.args.counts.now) _ (there c), s.requires.2.count)
 
-returns : tie.Need-returns
+returns : tie.Need-returns-then-not-is_allocated
 returns c = λ q r.
-    let a = c.before in
-    refuses_5 strips rules.release (λ x. did (after x)) releases _ _ q _ a.before.before.named.ensures r.sound (sym a.is-allocated.ensures ∙ not-true _ c.if1.true)
+    let a = c in
+    refuses_5 strips rules.release (λ x. did (after x)) releases _ _ q _ a.named-packet.ensures r.sound (sym a.is_allocated.ensures ∙ c.if-not-is_allocated.true)
 
-is-queued-requires : tie.Need-is-queued-requires
+is-queued-requires : tie.Need-is_queued-requires
 is-queued-requires c κs =
-    let e = c.before in
-    let s = e.before.before.before.before.before.before.before in
+    let e = c in
+    let s = e in
     (s.requires.0.whole, omega (arith, small e, part_few s.requires.1.part))
 
-returns-2 : tie.Need-returns-2
+returns-2 : tie.Need-returns-then-is_queued
 returns-2 c = λ q r.
-    let i = c.before in
-    let e = i.before.before in
-    refuses_6 strips rules.release (λ x. did (after x)) releases _ _ q _ e.before.before.before.named.ensures r.sound (there e) (i.is-queued.ensures ∙ queued_told r _) c.if2.true
+    let i = c in
+    let e = c.before.before in
+    refuses_6 strips rules.release (λ x. did (after x)) releases _ _ q _ e.named-packet.ensures r.sound (there e) (i.is_queued.ensures ∙ queued_told r _) c.if-is_queued.true
 
-give-back-requires : tie.Need-give-back-requires
+give-back-requires : tie.Need-give_back-requires
 give-back-requires c κs =
-    let e = c.before.before.before.before.before in
-    let s = e.before.before.before.before.before.before.before in
+    let e = c.before.before.before.before in
+    let s = e in
     (s.requires.0, s.requires.1, s.requires.2, small e, s.requires.3)
 
-returns-3 : tie.Need-returns-3
+returns-3 : tie.Need-returns
 returns-3 c = λ q r mem.
-    let b = c.before.before.before.before in
-    let f = b.before.before.before in
-    let i = f.before in
-    let e = i.before.before in
-    let n = e.before.before.before in
-    let s = n.before.before.before.before in
+    let b = c in
+    let f = c in
+    let i = c in
+    let e = c.before.before.before.before.before.before.before.before.before in
+    let n = c in
+    let s = c in
     let w = s.args.words.now in
     let ss = s.args.counts.now in
-    let back = b.give-back.ensures in
+    let back = b.give_back.ensures in
     performs rules.release w ss q mem after
-    (goes_ahead strips rules.release (λ x. did (after x)) releases w ss q _ n.named.ensures (there e) (i.is-queued.ensures ∙ queued_told r _) f.if2.false mem)
-    (back.chip q mem ∙ ap (λ (j : ℕ). rules.give_back j (view_of strips w ss q mem)) n.named.ensures)
+    (goes_ahead strips rules.release (λ x. did (after x)) releases w ss q _ n.named-packet.ensures (there e) (i.is_queued.ensures ∙ queued_told r _) f.if-is_queued.false mem)
+    (back.chip q mem ∙ ap (λ (j : ℕ). rules.give_back j (view_of strips w ss q mem)) n.named-packet.ensures)
     (alters_sound back q r.sound.queues)
 
-pub do-release-spec : {M : Type 1} → statement M
-do-release-spec =
+pub do_release_spec : {M : Type 1} → statement M
+do_release_spec =
     tie.close
     (tie.spec
     (λ c κs. search rules)

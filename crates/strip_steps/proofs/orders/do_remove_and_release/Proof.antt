@@ -19,43 +19,43 @@ use Rattle.strip_steps.proofs.orders.do_remove_and_release.Statement.{statement}
 use Rattle.strip_steps.proofs.orders.do_remove_and_release.Tie as tie
 
 -- RX is not empty
-some : (c : tie.Else1) → let a = c.before.before.before.before.before.args in 0 < length (queue_in 0 (word a.words.now 6) a.queues.now)
-some c = let s = c.before.before.before.before.before in omega (arith, s.requires.sound.queues.rx.many, c.if1.false)
+some : (c : tie.Else-words-eq0) → let a = c.args in 0 < length (queue_in 0 (word a.words.now 6) a.queues.now)
+some c = let s = c in omega (arith, s.requires.sound.queues.rx.many, c.if-words-eq0.false)
 
-returns : tie.Need-returns
+returns : tie.Need-returns-then-words-eq0
 returns c = λ mem.
-    let s = c.before.before.before.before.before in
-    unchanged rules.remove_and_release _ _ _ mem answer.RxEmpty s.requires.sound (releases_none _ (sym s.requires.sound.queues.rx.many ∙ c.if1.true))
+    let s = c in
+    unchanged rules.remove_and_release _ _ _ mem answer.RxEmpty s.requires.sound (releases_none _ (sym s.requires.sound.queues.rx.many ∙ c.if-words-eq0.true))
 
-give-back-requires : tie.Need-give-back-requires
+give-back-requires : tie.Need-give_back-requires
 give-back-requires c κs =
-    let l = c.before.before.before.before.before.before in
-    let e = l.before.before.before in
-    let s = e.before.before.before.before.before in
-    let left = l.leave-rx.ensures in
+    let l = c in
+    let e = c.before.before.before.before.before.before.before.before.before in
+    let s = c in
+    let left = l.leave_rx-head.ensures in
     let small = head_small (view_of strips s.args.words.now s.args.counts.now s.args.queues.now []) s.requires.well (some e) in
     (left.1.kept, rejoins_sets left.1 s.requires.sound.sets, good_lists s.requires.well, omega (arith, left.0, small), omega (arith, waits_few s.requires, ap (λ (r : Registers). r.numbers.waiting) left.1.regs))
 
-returns-2 : tie.Need-returns-2
+returns-2 : tie.Need-returns
 returns-2 c = λ mem.
-    let b = c.before.before.before.before in
-    let l = b.before.before.before.before.before.before.before in
-    let e = l.before.before.before in
-    let s = e.before.before.before.before.before in
+    let b = c in
+    let l = c in
+    let e = c.before.before.before.before.before.before.before.before.before.before.before.before.before.before in
+    let s = c in
     let w = s.args.words.now in
     let ss = s.args.counts.now in
     let q = s.args.queues.now in
     let v = view_of strips w ss q mem in
-    let k = l.leave-rx.result.0 in
-    let left = l.leave-rx.ensures in
-    let back = b.give-back.ensures in
+    let k = l.leave_rx-head.result.0 in
+    let left = l.leave_rx-head.ensures in
+    let back = b.give_back.ensures in
     performs rules.remove_and_release w ss q mem (λ x. rules.give_back (get_or x.pool.rx 0 0) (in_pool (set_rx (drop 1 x.pool.rx)) x))
     (releases_head v (some e))
-    (back.chip l.leave-rx.new.1.0 mem ∙ ap (rules.give_back k) (rejoins_chip left.1 strips ss mem) ∙ ap (λ (j : ℕ). rules.give_back j (in_pool (set_rx (drop 1 (queue_in 0 (word w 6) q))) v)) left.0)
-    (alters_sound back l.leave-rx.new.1.0 left.1.queues)
+    (back.chip l.leave_rx-head.new.queues mem ∙ ap (rules.give_back k) (rejoins_chip left.1 strips ss mem) ∙ ap (λ (j : ℕ). rules.give_back j (in_pool (set_rx (drop 1 (queue_in 0 (word w 6) q))) v)) left.0)
+    (alters_sound back l.leave_rx-head.new.queues left.1.queues)
 
-pub do-remove-and-release-spec : {M : Type 1} → statement M
-do-remove-and-release-spec =
+pub do_remove_and_release_spec : {M : Type 1} → statement M
+do_remove_and_release_spec =
     tie.close
     (tie.spec
     (λ c. search rules)

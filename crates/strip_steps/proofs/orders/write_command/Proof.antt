@@ -9,22 +9,22 @@ use Rattle.accesses.specs.Reach.{makes_as, orders, orders_none}
 use Rattle.strip_steps.proofs.orders.write_command.Statement.{statement}
 use Rattle.strip_steps.proofs.orders.write_command.Tie as tie
 
-returns : tie.Need-returns
+returns : tie.Need-returns-then-is_high
 returns c =
-    let s = c.before.before.before.before.before in
-    λ mem. makes_as (orders_none _ s.args.value _ (sym c.before.is-high.ensures ∙ c.if1.true)) (record { chip = refl; reply = refl; sound = s.requires.0.sound })
+    let s = c in
+    λ mem. makes_as (orders_none _ s.args.value _ (sym c.is_high.ensures ∙ c.if-is_high.true)) (record { chip = refl; reply = refl; sound = s.requires.0.sound })
 
-returns-2 : tie.Need-returns-2
+returns-2 : tie.Need-returns
 returns-2 c =
-    let r = c.before.before.before.before.before.before in
-    let e = r.before.before.before.before.before in
-    let s = e.before.before.before.before.before in
+    let r = c in
+    let e = c in
+    let s = c in
     λ mem. makes_as
-    (orders _ s.args.value _ (sym e.before.is-high.ensures ∙ e.if1.false) ∙ ap (λ (v : ℕ). command v (view_of strips s.args.words.now s.args.counts.now s.args.queues.now mem)) (sym r.before.low_byte.ensures))
+    (orders _ s.args.value _ (sym e.is_high.ensures ∙ e.if-is_high.false) ∙ ap (λ (v : ℕ). command v (view_of strips s.args.words.now s.args.counts.now s.args.queues.now mem)) (sym r.low_byte.ensures))
     (r.commanded.ensures mem)
 
-pub write-command-spec : {M : Type 1} → statement M
-write-command-spec =
+pub write_command_spec : {M : Type 1} → statement M
+write_command_spec =
     tie.close
     (tie.spec
     (λ c κs. search rules)

@@ -7,8 +7,8 @@ use Rattle.strip_steps.proofs.resets.soft_reset.Tie as tie
 returns : tie.Need-returns
 returns c = search (rules, soft)
 
-pub soft-reset-spec : {M : Type 1} → statement M
-soft-reset-spec =
+pub soft_reset_spec : {M : Type 1} → statement M
+soft_reset_spec =
     tie.close
     (tie.spec
     (λ c κs. search rules)

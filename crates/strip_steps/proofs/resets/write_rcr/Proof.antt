@@ -7,24 +7,24 @@ use borrow.Author.Rules.{rules}
 use Rattle.strip_steps.proofs.resets.write_rcr.Statement.{statement}
 use Rattle.strip_steps.proofs.resets.write_rcr.Tie as tie
 
-returns : tie.Need-returns
+returns : tie.Need-returns-then-is_set
 returns c =
-    let r = c.before.before.before.before.before.before.soft_reset_lem.ensures in
-    let f = c.before.before.before.before.before.before.before.before.before.before in
-    let n = f.before.before in
-    let d = n.before.before.before.before.before in
-    (rcr_resets _ _ _ (sym f.before.is_set.ensures ∙ f.if1.true) d.args.words.now d.args.counts.now d.args.queues.now _ _ _ n.new-rcr.ensures r, (r.sound.kept.whole, soft_size r, r.sound.queues.long))
+    let r = c.soft_reset.ensures in
+    let f = c in
+    let n = c in
+    let d = c in
+    (rcr_resets _ _ _ (sym f.is_set.ensures ∙ f.if-is_set.true) d.args.words.now d.args.counts.now d.args.queues.now _ _ _ n.new_rcr-rcr.ensures r, (r.sound.kept.whole, soft_size r, r.sound.queues.long))
 
-returns-2 : tie.Need-returns-2
+returns-2 : tie.Need-returns
 returns-2 c =
-    let n = c.before.before in
-    let d = n.before.before.before.before.before in
+    let n = c in
+    let d = c in
     let o = d.requires in
-    let a = writes_rcr _ _ _ (sym c.before.is_set.ensures ∙ c.if1.false) d.args.words.now o.kept n.new-rcr.ensures in
+    let a = writes_rcr _ _ _ (sym c.is_set.ensures ∙ c.if-is_set.false) d.args.words.now o.kept n.new_rcr-rcr.ensures in
     (does_makes a o, (a.kept.whole, refl, o.queues.long))
 
-pub write-rcr-spec : {M : Type 1} → statement M
-write-rcr-spec =
+pub write_rcr_spec : {M : Type 1} → statement M
+write_rcr_spec =
     tie.close
     (tie.spec
     (λ c. search rules)

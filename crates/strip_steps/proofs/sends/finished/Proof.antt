@@ -16,13 +16,13 @@ use Rattle.strip_steps.proofs.sends.finished.Statement.{statement}
 use Rattle.strip_steps.proofs.sends.finished.Tie as tie
 
 -- The places on the way, and what is at hand there.
-abbrev start : tie.Else1 → tie.Start
+abbrev start : tie.Else-out-lt-OUTPUT_BYTES → tie.Start
 start e = e.before.before.before.before.before.before
 
-abbrev long-at : tie.Else2 → tie.Else1
+abbrev long-at : tie.Else-not-is_within → tie.Else-out-lt-OUTPUT_BYTES
 long-at t = t.before.before
 
-abbrev within-at : tie.Else3 → tie.Else2
+abbrev within-at : tie.Else-not-is_set → tie.Else-not-is_within
 within-at u = u.before.before.before
 
 abbrev send : tie.Start → Send
@@ -32,67 +32,67 @@ abbrev chip : tie.Start → Chip
 chip s = view_of strips s.args.words.now s.args.counts.now s.args.queues.now s.args.memory.now
 
 -- the tests passed
-inside : (t : tie.Else2) → in_limits (send (start (long-at t))) ≡ true
-inside t = sym t.before.is_Within.ensures ∙ not-false t.before.is_Within.result t.if2.false
+inside : (t : tie.Else-not-is_within) → in_limits (send (start (long-at t))) ≡ true
+inside t = sym t.is_within.ensures ∙ t.if-not-is_within.false
 
-enabled : (u : tie.Else3) → bit 0 (word (start (long-at (within-at u))).args.words.now 0) ≡ true
-enabled u = sym u.before.is_set.ensures ∙ not-false u.before.is_set.result u.if3.false
+enabled : (u : tie.Else-not-is_set) → bit 0 (word (start (long-at (within-at u))).args.words.now 0) ≡ true
+enabled u = sym u.is_set.ensures ∙ u.if-not-is_set.false
 
 -- TX has a head
-queued : (x : tie.Else4) → 0 < word (start (long-at (within-at x.before.before))).args.words.now 8
-queued x = omega (arith, x.if4.false)
+queued : (x : tie.Else-words-eq0) → 0 < word (start (long-at (within-at x.before.before))).args.words.now 8
+queued x = omega (arith, x.if-words-eq0.false)
 
-returns : tie.Need-returns
+returns : tie.Need-returns-then-out-lt-OUTPUT_BYTES
 returns c =
     let s = c.before.before.before.before.before.before in
-    refuses 15 s.requires.0.sound (short_output (send s) (chip s) s.args.out.now c.if1.true) refl
+    refuses 15 s.requires.0.sound (short_output (send s) (chip s) s.args.out.now c.if-out-lt-OUTPUT_BYTES.true) refl
 
-returns-2 : tie.Need-returns-2
+returns-2 : tie.Need-returns-then-not-is_within
 returns-2 c =
-    let i = c.before in
-    let e = i.before in
+    let i = c in
+    let e = c.before.before in
     let s = start e in
-    refuses 11 s.pre.0.sound
-    (outside (send s) (chip s) s.args.out.now e.if1.false (sym i.is_Within.ensures ∙ not-true i.is_Within.result c.if2.true)) refl
+    refuses 11 s.requires.0.sound
+    (outside (send s) (chip s) s.args.out.now e.if-out-lt-OUTPUT_BYTES.false (sym i.is_within.ensures ∙ c.if-not-is_within.true)) refl
 
-returns-3 : tie.Need-returns-3
+returns-3 : tie.Need-returns-then-not-is_set
 returns-3 c =
-    let i = c.before in
-    let t = i.before.before in
+    let i = c in
+    let t = c.before.before.before in
     let e = long-at t in
     let s = start e in
-    refuses 12 s.pre.0.sound
-    (not_enabled (send s) (chip s) s.args.out.now e.if1.left (inside t) (sym i.is_set.ensures ∙ not-true i.is_set.result c.if3.true)) refl
+    refuses 12 s.requires.0.sound
+    (not_enabled (send s) (chip s) s.args.out.now e.if-out-lt-OUTPUT_BYTES.false (inside t) (sym i.is_set.ensures ∙ c.if-not-is_set.true)) refl
 
-returns-4 : tie.Need-returns-4
+returns-4 : tie.Need-returns-then-words-eq0
 returns-4 c =
     let u = c.before.before in
     let t = within-at u in
     let e = long-at t in
     let s = start e in
-    refuses 12 s.pre.0.sound
-    (nothing_queued (send s) (chip s) s.args.out.now e.if1.left (inside t) (enabled u) (sym s.pre.0.sound.queues.tx.many ∙ c.if4.true)) refl
+    refuses 12 s.requires.0.sound
+    (nothing_queued (send s) (chip s) s.args.out.now e.if-out-lt-OUTPUT_BYTES.false (inside t) (enabled u) (sym s.requires.0.sound.queues.tx.many ∙ c.if-words-eq0.true)) refl
 
-send-head-requires : tie.Need-send-head-requires
+send-head-requires : tie.Need-send_head-requires
 send-head-requires c κs =
     let x = c.before.before.before.before.before in
     let t = within-at x.before.before in
     let e = long-at t in
     let s = start e in
-    (s.pre.0, s.pre.1, e.if1.left, queued x, within_few (send s) (inside t))
+    (s.requires.0, s.requires.1, e.if-out-lt-OUTPUT_BYTES.false, queued x, within_few (send s) (inside t))
 
-returns-5 : tie.Need-returns-5
+returns-5 : tie.Need-returns
 returns-5 c =
-    let h = c.before.before.before.before.before.before.before.before.before.before in
+    let h = c in
     let x = h.before.before.before.before.before.before in
     let u = x.before.before in
-    let t = within-at u in
+    let t = within-at u.before.before.before.before.before.before.before.before.before.before in
     let e = long-at t in
     let s = start e in
-    sends_as (head_sent_lem (send s) (chip s) s.args.out.now e.if1.left (inside t) (enabled u) (omega (arith, queued x, s.pre.0.sound.queues.tx.many))) h.send-head.ensures
+    sends_as (head_sent_lem (send s) (chip s) s.args.out.now e.if-out-lt-OUTPUT_BYTES.false (inside t) (enabled u.before.before.before.before.before.before.before.before.before.before) (omega (arith, queued x.before.before.before.before.before.before.before.before.before.before, s.requires.0.sound.queues.tx.many))) h.send_head.ensures
 
-pub finished-spec : {M : Type 1} → statement M
-finished-spec =
+pub finished_spec : {M : Type 1} → statement M
+finished_spec =
     tie.close
     (tie.spec
     returns
