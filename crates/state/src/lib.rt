@@ -62,7 +62,7 @@ pub enum Answer {
 }
 
 // What the bench prints of an answer: its number and its value.
-#[derive(Drop)]
+#[derive(Clone, Copy)]
 pub struct Shown(pub u8, pub u16);
 
 pub fn printed(answer: Answer) -> Shown

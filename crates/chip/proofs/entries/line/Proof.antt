@@ -1,5 +1,6 @@
 -- By the guard: a record that is not in order has its line down, and of one that is the line is that of its words.
-use mathlib.Core.Path.{refl}
+use mathlib.Core.Bool.{not}
+use mathlib.Core.Path.{ap, refl}
 use Rattle.rules.specs.Chip.{paged}
 use Rattle.state.specs.Entry.{of_part}
 use Rattle.chip.specs.Rights.{not_in, is_in}
@@ -20,18 +21,18 @@ well-formed-requires : tie.Need-well_formed-requires
 well-formed-requires c κs = search rules
 
 returns : tie.Need-returns-then-not-well_formed
-returns c = record { up = λ o. absurd (not_in c.well_formed-2.ensures c.if-not-well_formed.true o); down = λ n. refl }
+returns c = record { up = λ o. absurd (not_in c.well_formed-2.ensures (ap not c.if-not-well_formed.true) o); down = λ n. refl }
 
 slice-aggregate-line-up : tie.Need-slice_bounds-line_up-end
 slice-aggregate-line-up c = search rules
 
 line-up-requires : tie.Need-line_up-requires
-line-up-requires c κs = let o = (is_in c.well_formed-2.ensures c.if-not-well_formed.false).ready.sound in (o.kept, (_, o.queues))
+line-up-requires c κs = let o = (is_in c.well_formed-2.ensures (ap not c.if-not-well_formed.false)).ready.sound in (o.kept, (_, o.queues))
 
 returns-2 : tie.Need-returns
 returns-2 c = let e = c in
     let p = e.args in
-    record { up = λ o mem. c.line_up.ensures paged (of_part p.r.words p.p.sets) p.q.slots mem o.ready.sound.queues; down = λ n. absurd (n (is_in e.well_formed-2.ensures e.if-not-well_formed.false)) }
+    record { up = λ o mem. c.line_up.ensures paged (of_part p.r.words p.p.sets) p.q.slots mem o.ready.sound.queues; down = λ n. absurd (n (is_in e.well_formed-2.ensures (ap not e.if-not-well_formed.false))) }
 
 pub line_spec : {M : Type 1} → statement M
 line_spec =

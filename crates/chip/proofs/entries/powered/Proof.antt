@@ -38,20 +38,20 @@ module _ (x : tie.After-slice_known-6-1) where
   abbrev n : ℕ
   n = packets.packets_of-n.result
 
-  all-zero : cleared.cleared.last.0 ≡ replicate 24 0
+  all-zero : cleared.cleared.new.sets ≡ replicate 24 0
   all-zero = cleared_zeros (λ i. omega (arith, x.slice_known-6-1.given i)) (cleared.cleared.ensures ∙ ap (λ (k : ℕ). replicate k []) start.requires.1)
 
-  fits : n ≤ length cleared.cleared.last.0
+  fits : n ≤ length cleared.cleared.new.sets
   fits = omega (arith, packets.packets_of-n.ensures, part_few (is_a_part start.args.part), ap length all-zero)
 
-  many : n ≡ length (take n cleared.cleared.last.0)
-  many = sym (length-take-le n cleared.cleared.last.0 fits)
+  many : n ≡ length (take n cleared.cleared.new.sets)
+  many = sym (length-take-le n cleared.cleared.new.sets fits)
 
-  part : IsPart (length (take n cleared.cleared.last.0))
+  part : IsPart (length (take n cleared.cleared.new.sets))
   part = subst IsPart (sym packets.packets_of-n.ensures ∙ many) (is_a_part start.args.part)
 
-  from_zero : WordsReset (replicate 32 0) reset.reset_words.last.0
-  from_zero = subst (λ (l : List ℕ). WordsReset l reset.reset_words.last.0) (zeroed.zeroed.ensures ∙ ap (λ (k : ℕ). replicate k 0) start.requires.0) reset.reset_words.ensures
+  from_zero : WordsReset (replicate 32 0) reset.reset_words.new.words
+  from_zero = subst (λ (l : List ℕ). WordsReset l reset.reset_words.new.words) (zeroed.zeroed.ensures ∙ ap (λ (k : ℕ). replicate k 0) start.requires.0) reset.reset_words.ensures
 
 returns : tie.Need-returns
 returns c =
@@ -59,9 +59,9 @@ returns c =
     let x = c.before.before.before.before.before.before.before.before.before.before in
     let p = packets_of (start x).args.part in
     let size : length (take (n x) (cleared x).cleared.new.sets) ≡ p = sym (many x) ∙ (packets x).packets_of-n.ensures in
-    let e = subst (λ (k : ℕ). Emptied k (reset x).reset_words.new.0 r.reset.new.0 r.reset.new.1.0 r.reset.new.1.1.0) size r.reset.ensures in
+    let e = subst (λ (k : ℕ). Emptied k (reset x).reset_words.new.words r.reset.new.words r.reset.new.sets r.reset.new.queues) size r.reset.ensures in
     starts p e.sound (powers_up (from_zero x) e (zeros paged p))
-    (ap (λ (l : List ℕ). r.reset.new.1.0 ++ l) (ap₂ (λ (k : ℕ) (l : List ℕ). drop k l) (packets x).packets_of-n.ensures (all-zero x) ∙ zeros_behind (start x).args.part))
+    (ap (λ (l : List ℕ). r.reset.new.sets ++ l) (ap₂ (λ (k : ℕ) (l : List ℕ). drop k l) (packets x).packets_of-n.ensures (all-zero x) ∙ zeros_behind (start x).args.part))
 
 pub powered_spec : {M : Type 1} → statement M
 powered_spec =

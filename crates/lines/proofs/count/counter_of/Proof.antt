@@ -5,42 +5,42 @@ use Rattle.lines.proofs.Packed.{Packing, packing_starts, packing_on, packing_sho
 use Rattle.lines.proofs.count.counter_of.Statement.{statement}
 use Rattle.lines.proofs.count.counter_of.Tie as tie
 
-abbrev invariant-loop : tie.invariant-loop
+abbrev invariant-loop : tie.invariant-loop-x
 invariant-loop number last text₀ unit₀ length₀ x₀ text unit length x = Packing number x text unit length
 
-abbrev decreases-loop : tie.decreases-loop
+abbrev decreases-loop : tie.decreases-loop-x
 decreases-loop number last text₀ unit₀ length₀ x₀ text unit length x = x
 
-returns : tie.Need-returns invariant-loop decreases-loop
-returns c = none_counted c.before.args.number c.if1.true
+returns : tie.Need-returns-then-number-ge100000000 invariant-loop decreases-loop
+returns c = none_counted c.args.number c.if-number-ge100000000.true
 
-loop-holds : tie.Need-loop-init invariant-loop decreases-loop
-loop-holds c = packing_starts c.before.args.number
+loop-holds : tie.Need-loop-x-init invariant-loop decreases-loop
+loop-holds c = packing_starts c.args.number
 
 -- The digits so far leave room for one more.
-mul-text : tie.Need-overflow-mul-text invariant-loop decreases-loop
-mul-text c = record { fits = omega (arith, packing_text c.before.loop.invariant c.loop-test.true c.before.before.if1.false) }
+mul-text : tie.Need-overflow_mul-text invariant-loop decreases-loop
+mul-text c = record { fits = omega (arith, packing_text c.loop-x.invariant c.loop-x-test.true c.if-number-ge100000000.false) }
 
-add-text-2 : tie.Need-overflow-add-text-2 invariant-loop decreases-loop
-add-text-2 c = record { fits = omega (arith, packing_text c.before.loop.invariant c.loop-test.true c.before.before.if1.false) }
+add-text-2 : tie.Need-overflow_add-text-in-loop-x invariant-loop decreases-loop
+add-text-2 c = record { fits = omega (arith, packing_text c.loop-x.invariant c.loop-x-test.true c.if-number-ge100000000.false) }
 
-add-text-3 : tie.Need-overflow-add-text-3 invariant-loop decreases-loop
-add-text-3 c = record { fits = omega (arith, packing_text c.before.loop.invariant c.loop-test.true c.before.before.if1.false) }
+add-text-3 : tie.Need-overflow_add-text-in-loop-x-2 invariant-loop decreases-loop
+add-text-3 c = record { fits = omega (arith, packing_text c.loop-x.invariant c.loop-x-test.true c.if-number-ge100000000.false) }
 
-mul-unit : tie.Need-overflow-mul-unit invariant-loop decreases-loop
-mul-unit c = record { fits = omega (arith, packing_unit c.before.loop.invariant c.loop-test.true c.before.before.if1.false) }
+mul-unit : tie.Need-overflow_mul-unit invariant-loop decreases-loop
+mul-unit c = record { fits = omega (arith, packing_unit c.loop-x.invariant c.loop-x-test.true c.if-number-ge100000000.false) }
 
-add-length : tie.Need-overflow-add-length invariant-loop decreases-loop
-add-length c = record { fits = omega (arith, packing_short c.before.loop.invariant c.loop-test.true c.before.before.if1.false) }
+add-length : tie.Need-overflow_add-length invariant-loop decreases-loop
+add-length c = record { fits = omega (arith, packing_short c.loop-x.invariant c.loop-x-test.true c.if-number-ge100000000.false) }
 
-loop-again : tie.Need-loop-preserved invariant-loop decreases-loop
-loop-again c = packing_on c.before.loop.invariant c.loop-test.true
+loop-again : tie.Need-loop-x-preserved invariant-loop decreases-loop
+loop-again c = packing_on c.loop-x.invariant c.loop-x-test.true
 
-returns-2 : tie.Need-returns-2 invariant-loop decreases-loop
-returns-2 c = digits_counted (packing_ends c.before.loop.invariant (omega (arith, c.loop-test.false)) c.before.before.if1.false)
+returns-2 : tie.Need-returns invariant-loop decreases-loop
+returns-2 c = digits_counted (packing_ends c.loop-x.invariant (omega (arith, c.loop-x-test.false)) c.if-number-ge100000000.false)
 
-pub counter-of-spec : {M : Type 1} → statement M
-counter-of-spec =
+pub counter_of_spec : {M : Type 1} → statement M
+counter_of_spec =
     tie.close
     (tie.spec
     invariant-loop

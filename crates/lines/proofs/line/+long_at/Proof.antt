@@ -29,30 +29,30 @@ abbrev claims : ℕ → long-at-lts.Claims
 claims t = (small-at-reads.Asked, small-at-reads.Learnt, long-at-below t, long-at.Post, four-at-reads.Asked, four-at-reads.Learnt)
 
 module _ (t : ℕ) where
-  small-at-requires : long-at-lts.Need-small-at-requires (claims t) (long-at-at t) long-at.Post
-  small-at-requires c κs = (c.before.if1.true, c.before.before.before.requires.1)
+  small-at-requires : long-at-lts.Need-small_at-requires (claims t) (long-at-at t) long-at.Post
+  small-at-requires c κs = (c.if-x-lt10000.true, c.requires.1)
 
-  returns : long-at-lts.Need-returns (claims t) (long-at-at t) long-at.Post
-  returns c = c.before.before.Small-at.ensures
+  returns : long-at-lts.Need-returns-then-x-lt10000 (claims t) (long-at-at t) long-at.Post
+  returns c = c.small_at.ensures
 
-  long-at-requires : long-at-lts.Need-long-at-requires (claims t) (long-at-at t) long-at.Post
+  long-at-requires : long-at-lts.Need-long_at-mid-requires (claims t) (long-at-at t) long-at.Post
   long-at-requires c κs =
       let s = c.before.before.before in
-      (omega (arith, s.requires.0, c.before.if1.false), omega (arith, s.requires.1, length_myriad s.args.x c.before.if1.false))
+      (omega (arith, s.requires.0, c.if-x-lt10000.false), omega (arith, s.requires.1, length_myriad s.args.x c.if-x-lt10000.false))
 
-  four-at-requires : long-at-lts.Need-four-at-requires (claims t) (long-at-at t) long-at.Post
+  four-at-requires : long-at-lts.Need-four_at-requires (claims t) (long-at-at t) long-at.Post
   four-at-requires c κs =
       let s = c.before.before.before.before.before.before.before in
-      (search rules, omega (arith, s.requires.1, length_myriad s.args.x c.before.before.before.before.before.if1.false, c.before.before.before.long-at.ensures.place))
+      (search rules, omega (arith, s.requires.1, length_myriad s.args.x c.if-x-lt10000.false, c.long_at-mid.ensures.place))
 
-  returns-2 : long-at-lts.Need-returns-2 (claims t) (long-at-at t) long-at.Post
+  returns-2 : long-at-lts.Need-returns (claims t) (long-at-at t) long-at.Post
   returns-2 c =
       let s = c.before.before.before.before.before.before.before.before.before.before in
-      writes_as (sym (decimal_myriad s.args.x c.before.before.before.before.before.before.before.before.if1.false))
-      (writes_on (omega (arith, s.requires.1)) c.before.before.before.before.before.before.long-at.ensures c.before.before.four-at.ensures)
+      writes_as (sym (decimal_myriad s.args.x c.if-x-lt10000.false))
+      (writes_on (omega (arith, s.requires.1)) c.long_at-mid.ensures c.four_at.ensures)
 
-pub +long-at-spec : {M : Type 1} → statement M
-+long-at-spec =
+pub +long_at_spec : {M : Type 1} → statement M
++long_at_spec =
     close μ-long-at λ t.
     long-at-lts.spec (claims t) (long-at-at t) long-at.Post
     (λ c. search rules)

@@ -6,5 +6,5 @@ use Rattle.lines.proofs.line.byte_at.Tie as tie
 returns : tie.Need-returns
 returns c = write_one c.args.lines.now c.args.at c.args.x (search rules)
 
-pub byte-at-spec : {M : Type 1} → statement M
-byte-at-spec = tie.close (tie.spec (λ c. search rules) (λ c. search rules) (λ c. search rules) returns)
+pub byte_at_spec : {M : Type 1} → statement M
+byte_at_spec = tie.close (tie.spec (λ c. search rules) (λ c. search rules) (λ c. search rules) returns)

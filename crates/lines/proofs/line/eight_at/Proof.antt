@@ -6,17 +6,17 @@ use Rattle.lines.proofs.Packed.{halves}
 use Rattle.lines.proofs.line.eight_at.Statement.{statement}
 use Rattle.lines.proofs.line.eight_at.Tie as tie
 
-word-at-requires-2 : tie.Need-word-at-requires-2
+word-at-requires-2 : tie.Need-word_at-requires
 unfolding bytes4
-word-at-requires-2 c κs = omega (arith, c.before.before.before.word_at.ensures.place)
+word-at-requires-2 c κs = omega (arith, c.word_at-mid.ensures.place)
 
 returns : tie.Need-returns
 returns c =
-    writes_as (halves c.before.before.before.before.before.before.before.before.before.args.x)
-    (writes_on (search rules) c.before.before.before.before.before.before.word_at.ensures c.before.before.word-at2.ensures)
+    writes_as (halves c.args.x)
+    (writes_on (search rules) c.word_at-mid.ensures c.word_at.ensures)
 
-pub eight-at-spec : {M : Type 1} → statement M
-eight-at-spec =
+pub eight_at_spec : {M : Type 1} → statement M
+eight_at_spec =
     tie.close
     (tie.spec
     (λ c. search rules)

@@ -4,7 +4,7 @@ use Rattle.lines.proofs.line.four_at.Statement.{statement}
 use Rattle.lines.proofs.line.four_at.Tie as tie
 
 returns : tie.Need-returns
-returns c = writes_on (search rules) c.before.before.before.before.before.before.two_at.ensures c.before.before.two-at2.ensures
+returns c = writes_on (search rules) c.two_at-mid.ensures c.two_at.ensures
 
-pub four-at-spec : {M : Type 1} → statement M
-four-at-spec = tie.close (tie.spec (λ c κs. search rules) (λ c κs. search rules) (λ c. search rules) returns)
+pub four_at_spec : {M : Type 1} → statement M
+four_at_spec = tie.close (tie.spec (λ c κs. search rules) (λ c κs. search rules) (λ c. search rules) returns)

@@ -9,20 +9,20 @@ use Rattle.lines.proofs.line.hex_word.Tie as tie
 few : (c : tie.Start) → bit_and ((nibbles c.args.x + 0x06060606) / 16) 0x01010101 ≤ 0x01010101
 few c = and_le_r ((nibbles c.args.x + 0x06060606) / 16) 0x01010101
 
-mul-result : tie.Need-overflow-mul-result
+mul-result : tie.Need-overflow_mul-result
 mul-result c = record { fits = omega (arith, few c) }
 
-add-result : tie.Need-overflow-add-result
+add-result : tie.Need-overflow_add-result
 add-result c = record { fits = omega (arith, few c) }
 
-add-result-2 : tie.Need-overflow-add-result-2
+add-result-2 : tie.Need-overflow_add-result-2
 add-result-2 c = record { fits = omega (arith, few c) }
 
 returns : tie.Need-returns
 returns c = hex_word c.args.x (search rules)
 
-pub hex-word-spec : {M : Type 1} → statement M
-hex-word-spec =
+pub hex_word_spec : {M : Type 1} → statement M
+hex_word_spec =
     tie.close
     (tie.spec
     (λ c. search rules)

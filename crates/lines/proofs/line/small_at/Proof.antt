@@ -7,39 +7,39 @@ use Rattle.lines.specs.Decimal.{decimal_one, decimal_two, decimal_three, decimal
 use Rattle.lines.proofs.line.small_at.Statement.{statement}
 use Rattle.lines.proofs.line.small_at.Tie as tie
 
-byte-at-requires : tie.Need-byte-at-requires
-byte-at-requires c κs = let s = c.before.before.before in omega (arith, s.requires.1, ap length (decimal_one s.args.x c.before.if1.true))
+byte-at-requires : tie.Need-byte_at-requires
+byte-at-requires c κs = let s = c in omega (arith, s.requires.1, ap length (decimal_one s.args.x c.if-x-lt10.true))
 
-returns : tie.Need-returns
-returns c = writes_as (sym (decimal_one _ c.before.before.before.before.if1.true)) c.before.before.byte_at.ensures
+returns : tie.Need-returns-then-x-lt10
+returns c = writes_as (sym (decimal_one _ c.if-x-lt10.true)) c.byte_at.ensures
 
-two-at-requires : tie.Need-two-at-requires
-two-at-requires c κs = let s = c.before.before.before.before in (search rules, omega (arith, s.requires.1, ap length (decimal_two s.args.x c.before.before.if1.false c.before.if2.true)))
+two-at-requires : tie.Need-two_at-requires
+two-at-requires c κs = let s = c in (search rules, omega (arith, s.requires.1, ap length (decimal_two s.args.x c.if-x-lt10.false c.if-x-lt100.true)))
 
-returns-2 : tie.Need-returns-2
-returns-2 c = writes_as (sym (decimal_two _ c.before.before.before.before.before.if1.false c.before.before.before.before.if2.true)) c.before.before.two_at.ensures
+returns-2 : tie.Need-returns-then-x-lt100
+returns-2 c = writes_as (sym (decimal_two _ c.if-x-lt10.false c.if-x-lt100.true)) c.two_at.ensures
 
-byte-at-requires-2 : tie.Need-byte-at-requires-2
-byte-at-requires-2 c κs = let s = c.before.before.before.before.before in omega (arith, s.requires.1, ap length (decimal_three s.args.x c.before.before.if2.false c.before.if3.true))
+byte-at-requires-2 : tie.Need-byte_at-mid-requires
+byte-at-requires-2 c κs = let s = c in omega (arith, s.requires.1, ap length (decimal_three s.args.x c.if-x-lt100.false c.if-x-lt1000.true))
 
-two-at-requires-2 : tie.Need-two-at-requires-2
+two-at-requires-2 : tie.Need-two_at-requires-then-x-lt1000
 two-at-requires-2 c κs =
-    let s = c.before.before.before.before.before.before.before.before.before in
-    (search rules, omega (arith, s.requires.1, ap length (decimal_three s.args.x c.before.before.before.before.before.before.if2.false c.before.before.before.before.before.if3.true), c.before.before.before.byte-at2.ensures.place))
+    let s = c in
+    (search rules, omega (arith, s.requires.1, ap length (decimal_three s.args.x c.if-x-lt100.false c.if-x-lt1000.true), c.byte_at-mid.ensures.place))
 
-returns-3 : tie.Need-returns-3
+returns-3 : tie.Need-returns-then-x-lt1000
 returns-3 c =
-    writes_as (sym (decimal_three _ c.before.before.before.before.before.before.before.before.before.if2.false c.before.before.before.before.before.before.before.before.if3.true))
-    (writes_on (search rules) c.before.before.before.before.before.before.byte-at2.ensures c.before.before.two-at2.ensures)
+    writes_as (sym (decimal_three _ c.if-x-lt100.false c.if-x-lt1000.true))
+    (writes_on (search rules) c.byte_at-mid.ensures c.two_at-then-x-lt1000.ensures)
 
-four-at-requires : tie.Need-four-at-requires
-four-at-requires c κs = let s = c.before.before.before.before.before in (search rules, omega (arith, s.requires.1, ap length (decimal_four s.args.x c.before.if3.false s.requires.0)))
+four-at-requires : tie.Need-four_at-requires
+four-at-requires c κs = let s = c in (search rules, omega (arith, s.requires.1, ap length (decimal_four s.args.x c.if-x-lt1000.false s.requires.0)))
 
-returns-4 : tie.Need-returns-4
-returns-4 c = writes_as (sym (decimal_four _ c.before.before.before.before.if3.false c.before.before.before.before.before.before.before.before.requires.0)) c.before.before.four-at.ensures
+returns-4 : tie.Need-returns
+returns-4 c = writes_as (sym (decimal_four _ c.if-x-lt1000.false c.requires.0)) c.four_at.ensures
 
-pub small-at-spec : {M : Type 1} → statement M
-small-at-spec =
+pub small_at_spec : {M : Type 1} → statement M
+small_at_spec =
     tie.close
     (tie.spec
     (λ c. search rules)

@@ -4,10 +4,10 @@ use Rattle.lines.proofs.line.two_at.Statement.{statement}
 use Rattle.lines.proofs.line.two_at.Tie as tie
 
 returns : tie.Need-returns
-returns c = writes_on (search rules) c.before.before.before.before.before.before.byte_at.ensures c.before.before.byte-at2.ensures
+returns c = writes_on (search rules) c.byte_at-mid.ensures c.byte_at.ensures
 
-pub two-at-spec : {M : Type 1} → statement M
-two-at-spec =
+pub two_at_spec : {M : Type 1} → statement M
+two_at_spec =
     tie.close
     (tie.spec
     (λ c. search rules)

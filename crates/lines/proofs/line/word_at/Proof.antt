@@ -8,11 +8,11 @@ returns : tie.Need-returns
 unfolding bytes4
 returns c =
     writes_on (search rules)
-    (writes_on (search rules) (writes_on (search rules) c.before.before.before.before.before.before.before.before.before.before.before.before.before.before.byte_at.ensures c.before.before.before.before.before.before.before.before.before.before.byte-at2.ensures) c.before.before.before.before.before.before.byte-at3.ensures)
-    c.before.before.byte-at4.ensures
+    (writes_on (search rules) (writes_on (search rules) c.byte_at-b.ensures c.byte_at-c.ensures) c.byte_at-d.ensures)
+    c.byte_at.ensures
 
-pub word-at-spec : {M : Type 1} → statement M
-word-at-spec =
+pub word_at_spec : {M : Type 1} → statement M
+word_at_spec =
     tie.close
     (tie.spec
     (λ c. search rules)

@@ -13,38 +13,38 @@ use Rattle.lines.proofs.Bytes.{no_send, refused_send, done_send, take_whole, wri
 use Rattle.lines.proofs.watched.sent_at.Statement.{statement}
 use Rattle.lines.proofs.watched.sent_at.Tie as tie
 
-returns : tie.Need-returns
+returns : tie.Need-returns-then-not-sent
 returns c =
-    let s = c.before.before.before in
-    writes_as (sym (no_send _ s.args.out.now (not-true s.args.sent c.if1.true))) (writes_none s.args.lines.now s.args.at)
+    let s = c in
+    writes_as (sym (no_send _ s.args.out.now (c.if-not-sent.true))) (writes_none s.args.lines.now s.args.at)
 
-returns-2 : tie.Need-returns-2
+returns-2 : tie.Need-returns-then-shown-ne0
 returns-2 c =
-    let s = c.before.before.before.before.before in
-    writes_as (sym (refused_send s.args.sent s.args.shown.0 s.args.shown.1 s.args.out.now c.if2.true)) (writes_none s.args.lines.now s.args.at)
+    let s = c in
+    writes_as (sym (refused_send s.args.sent s.args.shown.0 s.args.shown.1 s.args.out.now c.if-shown-ne0.true)) (writes_none s.args.lines.now s.args.at)
 
-returns-3 : tie.Need-returns-3
+returns-3 : tie.Need-returns-then-out-n
 returns-3 c =
-    let s = c.before.before.before.before.before.before.before.before.before.before.before.before.before.before.before in
+    let s = c in
     let out = s.args.out.now in
-    let whole : take s.args.shown.1 out ≡ out = take_whole out s.args.shown.1 (omega (arith, c.before.before.before.before.if3.true)) in
-    writes_as (ap (λ (l : List ℕ). (0x20 ∷ []) ++ hex_bytes l) (sym whole) ∙ sym (done_send s.args.shown.1 out (not-false s.args.sent c.before.before.before.before.before.before.before.before.before.before.before.before.if1.false) c.before.before.before.before.before.before.before.before.before.before.if2.false))
-    (writes_on (omega (arith, s.requires)) c.before.before.before.before.before.before.before.byte_at.ensures c.before.before.hex-at.ensures)
+    let whole : take s.args.shown.1 out ≡ out = take_whole out s.args.shown.1 (omega (arith, c.if-out-n.true)) in
+    writes_as (ap (λ (l : List ℕ). (0x20 ∷ []) ++ hex_bytes l) (sym whole) ∙ sym (done_send s.args.shown.1 out (not-false s.args.sent c.if-not-sent.false) c.if-shown-ne0.false))
+    (writes_on (omega (arith, s.requires)) c.byte_at-mid.ensures c.hex_at.ensures)
 
-slice-aggregate-hex-at : tie.Need-slice-aggregate-hex-at
-slice-aggregate-hex-at c = sym (length-take-le _ _ (omega (arith, c.before.before.if3.false)))
+slice-aggregate-hex-at : tie.Need-slice_bounds-hex_at-end
+slice-aggregate-hex-at c = sym (length-take-le _ _ (omega (arith, c.if-out-n.false)))
 
-hex-at-requires-2 : tie.Need-hex-at-requires-2
-hex-at-requires-2 c κs = omega (arith, slice-aggregate-hex-at c, c.before.before.if3.false, c.before.before.before.before.before.byte_at.ensures.place, c.before.before.before.before.lines.given, c.before.before.before.before.before.before.before.before.before.before.before.before.before.requires)
+hex-at-requires-2 : tie.Need-hex_at-requires-2
+hex-at-requires-2 c κs = omega (arith, slice-aggregate-hex-at c, c.if-out-n.false, c.byte_at-mid.ensures.place, c.byte_at-mid.new.lines.given, c.requires)
 
-returns-4 : tie.Need-returns-4
+returns-4 : tie.Need-returns
 returns-4 c =
-    let s = c.before.before.before.before.before.before.before.before.before.before.before.before.before.before.before.before in
-    writes_as (sym (done_send s.args.shown.1 s.args.out.now (not-false s.args.sent c.before.before.before.before.before.before.before.before.before.before.before.before.before.if1.false) c.before.before.before.before.before.before.before.before.before.before.before.if2.false))
-    (writes_on (omega (arith, s.requires)) c.before.before.before.before.before.before.before.before.byte_at.ensures c.before.before.hex-at2.ensures)
+    let s = c in
+    writes_as (sym (done_send s.args.shown.1 s.args.out.now (c.if-not-sent.false) c.if-shown-ne0.false))
+    (writes_on (omega (arith, s.requires)) c.byte_at-mid.ensures c.hex_at-2.ensures)
 
-pub sent-at-spec : {M : Type 1} → statement M
-sent-at-spec =
+pub sent_at_spec : {M : Type 1} → statement M
+sent_at_spec =
     tie.close
     (tie.spec
     returns

@@ -19,17 +19,17 @@ use Rattle.lines.proofs.watched.watched_at.Statement.{statement}
 use Rattle.lines.proofs.watched.watched_at.Tie as tie
 
 -- The number ends no later than this, and the value than that.
-number-ends : (c : tie.After-number-at) → c.number_at.result ≤ c.before.before.before.before.args.at + 20
-number-ends c = omega (arith, decimal_length 19 c.before.before.before.before.args.counter.number (search rules), c.number_at.ensures.place)
+number-ends : (c : tie.After-number_at-b) → c.number_at-b.result ≤ c.args.at + 20
+number-ends c = omega (arith, decimal_length 19 c.args.counter.number (search rules), c.number_at-b.ensures.place)
 
-value-ends : (c : tie.After-shown-at) → c.shown-at.result ≤ c.before.before.before.before.before.before.before.before.args.at + 29
-value-ends c = omega (arith, number-ends c.before.before.before.before, c.shown-at.ensures.place, (rest_length c.before.before.before.before.before.before.before.before.args.shown.0 c.before.before.before.before.before.before.before.before.args.shown.1 (search rules)).1)
+value-ends : (c : tie.After-shown_at-c) → c.shown_at-c.result ≤ c.args.at + 29
+value-ends c = omega (arith, number-ends c.before.before.before.before, c.shown_at-c.ensures.place, (rest_length c.args.shown.0 c.args.shown.1 (search rules)).1)
 
-shown-at-requires : tie.Need-shown-at-requires
-shown-at-requires c κs = omega (arith, number-ends c.before.before.before, c.before.before.before.before.before.before.before.requires.1, c.before.before.lines.given)
+shown-at-requires : tie.Need-shown_at-c-requires
+shown-at-requires c κs = omega (arith, number-ends c.before.before.before, c.requires.1, c.number_at-b.new.lines.given)
 
-more-at-requires : tie.Need-more-at-requires
-more-at-requires c κs = omega (arith, value-ends c.before.before.before, c.before.before.before.before.before.before.before.before.before.before.before.requires.1, c.before.before.lines2.given, c.before.before.before.before.before.before.lines.given)
+more-at-requires : tie.Need-more_at-requires
+more-at-requires c κs = omega (arith, value-ends c.before.before.before, c.requires.1, c.lines-2-1.given, c.shown_at-c.new.lines.given)
 
 -- What stands behind the value has so many bytes.
 more-length : (r : Reply) (up sent : Bool) (out : List ℕ) → (3 ≤ length (more r up sent out)) × (length (more r up sent out) ≤ 4 + 2 * length out)
@@ -44,16 +44,16 @@ parts d a h m = simp append_assoc
 returns : tie.Need-returns
 unfolding watch_line
 returns c =
-    let s = c.before.before.before.before.before.before.before.before.before.before.before.before.before.before in
+    let s = c in
     let n = rest_length s.args.shown.0 s.args.shown.1 (search rules) in
     let r : Reply = record { number = s.args.shown.0; value = s.args.shown.1 } in
     let m = more-length r s.args.up s.args.sent s.args.out.now in
-    let e = c.before.before.more-at.ensures in
-    let last = writes_on (omega (arith, number-ends c.before.before.before.before.before.before.before.before.before.before, s.requires.1, c.before.before.before.before.before.before.before.before.before.lines.given)) c.before.before.before.before.before.before.shown-at.ensures e in (
+    let e = c.more_at.ensures in
+    let last = writes_on (omega (arith, number-ends c.before.before.before.before.before.before.before.before.before.before, s.requires.1, c.more_at.new.lines.given)) c.shown_at-c.ensures e in (
       writes_as (parts (decimal s.args.counter.number) (decimal s.args.shown.0) (hex4 s.args.shown.1) (more r s.args.up s.args.sent s.args.out.now))
-          (goes_on_lem c.before.before.before.before.before.before.before.before.before.before.number_at.ensures last (omega (arith, n.0, m.0, length-append (rest s.args.shown.0 s.args.shown.1) (more r s.args.up s.args.sent s.args.out.now)))),
+          (goes_on_lem c.number_at-b.ensures last (omega (arith, n.0, m.0, length-append (rest s.args.shown.0 s.args.shown.1) (more r s.args.up s.args.sent s.args.out.now)))),
       omega (arith, value-ends c.before.before.before.before.before.before, e.place, m.1),
     )
 
-pub watched-at-spec : {M : Type 1} → statement M
-watched-at-spec = tie.close (tie.spec (λ c κs. search rules) shown-at-requires more-at-requires (λ c. search rules) returns)
+pub watched_at_spec : {M : Type 1} → statement M
+watched_at_spec = tie.close (tie.spec (λ c κs. search rules) shown-at-requires more-at-requires (λ c. search rules) returns)

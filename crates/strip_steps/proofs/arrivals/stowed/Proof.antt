@@ -32,7 +32,7 @@ is-data : (d : tie.After-data_length-n) → let s = start d in d.data_length-n.r
 is-data d = d.data_length-n.ensures ∙ sym (data_by (registers_in (start d).args.words.now) _)
 
 data-few : (d : tie.After-data_length-n) → d.data_length-n.result ≤ 1532
-data-few d = omega (arith, is-data d, storable.data-few (start d).requires.0)
+data-few d = omega (arith, is-data d, storable.data_few (start d).requires.0)
 
 status-of-requires : tie.Need-status_of-status-requires
 status-of-requires c κs =
@@ -105,7 +105,7 @@ stowed_spec =
     (λ c. search rules)
     status-of-requires
     lowest-unallocated-requires
-    (λ c κs. data-few c.before.before.before.before.before.before)
+    (λ c κs. data-few c.before.before.before.before.before)
     grant-requires
     (λ c κs. data-few (length-told c.before.before.before.before.before.before))
     store-frame-requires

@@ -13,6 +13,7 @@ use Rattle.state.specs.Laws.{register_in}
 use Rattle.accesses.specs.Reach.{place_of, read_nowhere, read_there, makes_as, reads_data}
 use Rattle.accesses.specs.Places.{at_data}
 use Rattle.strip_steps.proofs.driver.read.Statement.{statement}
+use Rattle.strip_steps.proofs.driver.read.Lts.{in-20, in-21}
 use Rattle.strip_steps.proofs.driver.read.Tie as tie
 
 -- past the test for refusal 1
@@ -63,7 +64,7 @@ returns-3 c =
 at_its_place : (m : tie.Joined-at) → let s = start (else-at m.before) in register_in (place_of s.args.words.now s.args.offset) ≡ DATA
 at_its_place m =
     let a = m.place-at.result in
-    let here : a / 2 ≡ 10 = ⊎_elim (λ w. omega (arith, w.keys1)) (λ w. omega (arith, w.keys2)) m.in_default.in_default-own.branch in
+    let here : a / 2 ≡ 10 = elim m.match-at.branch [ in-20 w ↦ omega (arith, w.in-20.is) | in-21 w ↦ omega (arith, w.in-21.is) ] in
     sym (ap register_in m.place-at.ensures) ∙ at_data a here
 
 returns-4 : tie.Need-returns
@@ -74,7 +75,7 @@ returns-4 c =
     let s = start e in
     let c = view_of strips s.args.words.now s.args.counts.now s.args.queues.now s.args.memory.now in
     read_there _ _ s.args.words.now s.args.counts.now s.args.queues.now s.args.memory.now s.requires.0.sound.kept (placed e)
-    (makes_as (ap (λ (x : Register). read_register x (lanes_at (width_of s.args.width) s.args.offset) c) (at_its_place m) ∙ reads_data s.args.width s.args.offset c) (rw r.is_IsWide.ensures at r.read_data.ensures))
+    (makes_as (ap (λ (x : Register). read_register x (lanes_at (width_of s.args.width) s.args.offset) c) (at_its_place m) ∙ reads_data s.args.width s.args.offset c) (rw r.is_wide.ensures at r.read_data.ensures))
 
 pub read_spec : {M : Type 1} → statement M
 read_spec =

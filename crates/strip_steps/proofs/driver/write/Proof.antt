@@ -17,6 +17,7 @@ use Rattle.state.specs.Laws.{register_in}
 use Rattle.accesses.specs.Reach.{place_of, write_nowhere, write_there, makes_as, writes_data}
 use Rattle.accesses.specs.Places.{at_data}
 use Rattle.strip_steps.proofs.driver.write.Statement.{statement}
+use Rattle.strip_steps.proofs.driver.write.Lts.{in-20, in-21}
 use Rattle.strip_steps.proofs.driver.write.Tie as tie
 
 -- past the test for refusal 1
@@ -90,9 +91,9 @@ returns-5 c =
     let e = else-at d in
     let s = start e in
     let a = d.place-at.result in
-    let here : a / 2 ≡ 10 = ⊎_elim (λ w. omega (arith, w.keys1)) (λ w. omega (arith, w.keys2)) m.in_default.in_default-own.branch in
+    let here : a / 2 ≡ 10 = elim m.match-at.branch [ in-20 w ↦ omega (arith, w.in-20.is) | in-21 w ↦ omega (arith, w.in-21.is) ] in
     there e DATA (sym (ap register_in d.place-at.ensures) ∙ at_data a here)
-    (makes_as (writes_data s.args.width s.args.offset s.args.value _) (rw r.is_IsWide.ensures at r.write_data.ensures))
+    (makes_as (writes_data s.args.width s.args.offset s.args.value _) (rw r.is_wide.ensures at r.write_data.ensures))
 
 pub write_spec : {M : Type 1} → statement M
 write_spec =
