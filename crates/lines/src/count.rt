@@ -4,7 +4,7 @@ ghost use Rattle.lines.specs.Counting.{Counts, counter_of};
 
 // A record number and, below a hundred million, its decimal digits as characters: the first in the lowest byte of `text`, `length` of them,
 // the last one being `last`, which stands for `unit` in the text. At and above that all but the number is 0.
-#[derive(Drop)]
+#[derive(Clone, Copy)]
 pub struct Counter {
     pub number: u64,
     pub text: u64,

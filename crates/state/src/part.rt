@@ -7,7 +7,7 @@ ghost use Rattle.state.specs.Entry.{size_in};
 
 use crate::places::MIR;
 
-#[derive(Drop)]
+#[derive(Clone, Copy)]
 pub enum Part {
     Lan91c94,
     Lan91c96,

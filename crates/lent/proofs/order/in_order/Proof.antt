@@ -1,6 +1,6 @@
 -- As `ready` says, then by the memory's length.
 use mathlib.Core.Path.{ap, sym, ◌∙◌}
-use mathlib.Core.Bool.{true≢false}
+use mathlib.Core.Bool.{not, true≢false}
 use Prim.Native.Nat.{ℕ, ◌*◌}
 use borrow.Author.Tests.{eqb-true, eq-eqb}
 use Rattle.chip.specs.Rights.{not_in, is_in}
@@ -9,14 +9,14 @@ use Rattle.lent.proofs.order.in_order.Statement.{statement}
 use Rattle.lent.proofs.order.in_order.Tie as tie
 
 returns : tie.Need-returns
-returns c = record { sound = λ e. absurd (true≢false (sym e)); complete = λ o. absurd (not_in c.before.ready.ensures c.if1.true o.holds) }
+returns c = record { sound = λ e. absurd (true≢false (sym e)); complete = λ o. absurd (not_in c.before.ready.ensures (ap not c.if1.true) o.holds) }
 
 size-in-requires : tie.Need-size-in-requires
-size-in-requires c κs = (is_in c.before.ready.ensures c.if1.false).ready.sound.kept.whole
+size-in-requires c κs = (is_in c.before.ready.ensures (ap not c.if1.false)).ready.sound.kept.whole
 
 returns-2 : tie.Need-returns-2
 returns-2 c =
-    let h = is_in c.before.before.ready.ensures c.before.if1.false in
+    let h = is_in c.before.before.ready.ensures (ap not c.before.if1.false) in
     let bytes = ap (λ (k : ℕ). 256 * k) c.size_in.ensures in
     record { sound = λ e. record { holds = h; full = eqb-true _ _ e ∙ bytes }; complete = λ o. eq-eqb _ _ (o.full ∙ sym bytes) }
 

@@ -1,6 +1,6 @@
 -- By the lengths, which a record in order has, then as `well_formed` says.
-use mathlib.Core.Path.{sym}
-use mathlib.Core.Bool.{true≢false}
+use mathlib.Core.Path.{ap, sym}
+use mathlib.Core.Bool.{not, true≢false}
 use Rattle.state.specs.Places.{record_long}
 use Rattle.chip.specs.Rights.{not_in, is_in}
 use borrow.Author.Rules.{rules}
@@ -8,10 +8,10 @@ use Rattle.lent.proofs.order.ready.Statement.{statement}
 use Rattle.lent.proofs.order.ready.Tie as tie
 
 returns : tie.Need-returns
-returns c = record { sound = λ e. absurd (true≢false (sym e)); complete = λ o. absurd (not_in c.before.sized.ensures c.if1.true (record { words = o.ready.sound.kept.whole; sets = record_long o; queues = o.ready.sound.queues.long })) }
+returns c = record { sound = λ e. absurd (true≢false (sym e)); complete = λ o. absurd (not_in c.before.sized.ensures (ap not c.if1.true) (record { words = o.ready.sound.kept.whole; sets = record_long o; queues = o.ready.sound.queues.long })) }
 
 well-formed-requires : tie.Need-well-formed-requires
-well-formed-requires c κs = let z = is_in c.before.sized.ensures c.if1.false in (z.words, z.sets, z.queues)
+well-formed-requires c κs = let z = is_in c.before.sized.ensures (ap not c.if1.false) in (z.words, z.sets, z.queues)
 
 pub ready-spec : {M : Type 1} → statement M
 ready-spec = tie.close (tie.spec (λ c κs. search rules) returns well-formed-requires (λ c. search rules))

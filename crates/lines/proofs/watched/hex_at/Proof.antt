@@ -43,7 +43,7 @@ loop-again c =
       omega (arith, t),
       omega (arith, v.1, first.place, second.place),
       writes_as (sym (hex_more bytes i t)) (writes_on r (writes_on r v.2 first) second),
-      c.lines-in-loop-i-1.given ∙ c.byte_at-end.new.lines.given ∙ v.3,
+      c.lines-in-loop-i-1.given ∙ c.lines-1.given ∙ v.3,
     )
 
 returns : tie.Need-returns invariant-loop decreases-loop

@@ -16,10 +16,10 @@ sent-ends c =
     omega (arith, sent_length s.args.sent (record { number = s.args.shown.0; value = s.args.shown.1 }) s.args.out.now, c.sent_at-d.ensures.place, c.byte_at-c.ensures.place, c.byte_at-b.ensures.place)
 
 sent-at-requires : tie.Need-sent_at-d-requires
-sent-at-requires c κs = omega (arith, c.requires, c.byte_at-c.ensures.place, c.byte_at-b.ensures.place, c.lines-2-1.given, c.byte_at-c.new.lines.given)
+sent-at-requires c κs = omega (arith, c.requires, c.byte_at-c.ensures.place, c.byte_at-b.ensures.place, c.lines-2-1.given, c.lines-1.given)
 
 byte-at-requires-3 : tie.Need-byte_at-requires
-byte-at-requires-3 c κs = omega (arith, sent-ends c.before.before.before, c.requires, c.lines-3-1.given, c.lines-2-1.given, c.sent_at-d.new.lines.given)
+byte-at-requires-3 c κs = omega (arith, sent-ends c.before.before.before, c.requires, c.lines-3-1.given, c.lines-2-1.given, c.lines-1.given)
 
 returns : tie.Need-returns
 returns c =

@@ -28,14 +28,14 @@ returns-3 c =
     let s = c in
     let out = s.args.out.now in
     let whole : take s.args.shown.1 out ≡ out = take_whole out s.args.shown.1 (omega (arith, c.if-out-n.true)) in
-    writes_as (ap (λ (l : List ℕ). (0x20 ∷ []) ++ hex_bytes l) (sym whole) ∙ sym (done_send s.args.shown.1 out (not-false s.args.sent c.if-not-sent.false) c.if-shown-ne0.false))
+    writes_as (ap (λ (l : List ℕ). (0x20 ∷ []) ++ hex_bytes l) (sym whole) ∙ sym (done_send s.args.shown.1 out c.if-not-sent.false c.if-shown-ne0.false))
     (writes_on (omega (arith, s.requires)) c.byte_at-mid.ensures c.hex_at.ensures)
 
 slice-aggregate-hex-at : tie.Need-slice_bounds-hex_at-end
 slice-aggregate-hex-at c = sym (length-take-le _ _ (omega (arith, c.if-out-n.false)))
 
 hex-at-requires-2 : tie.Need-hex_at-requires-2
-hex-at-requires-2 c κs = omega (arith, slice-aggregate-hex-at c, c.if-out-n.false, c.byte_at-mid.ensures.place, c.byte_at-mid.new.lines.given, c.requires)
+hex-at-requires-2 c κs = omega (arith, slice-aggregate-hex-at c, c.if-out-n.false, c.byte_at-mid.ensures.place, c.lines-1.given, c.requires)
 
 returns-4 : tie.Need-returns
 returns-4 c =

@@ -26,10 +26,10 @@ value-ends : (c : tie.After-shown_at-c) → c.shown_at-c.result ≤ c.args.at + 
 value-ends c = omega (arith, number-ends c.before.before.before.before, c.shown_at-c.ensures.place, (rest_length c.args.shown.0 c.args.shown.1 (search rules)).1)
 
 shown-at-requires : tie.Need-shown_at-c-requires
-shown-at-requires c κs = omega (arith, number-ends c.before.before.before, c.requires.1, c.number_at-b.new.lines.given)
+shown-at-requires c κs = omega (arith, number-ends c.before.before.before, c.requires.1, c.lines-1.given)
 
 more-at-requires : tie.Need-more_at-requires
-more-at-requires c κs = omega (arith, value-ends c.before.before.before, c.requires.1, c.lines-2-1.given, c.shown_at-c.new.lines.given)
+more-at-requires c κs = omega (arith, value-ends c.before.before.before, c.requires.1, c.lines-2-1.given, c.lines-1.given)
 
 -- What stands behind the value has so many bytes.
 more-length : (r : Reply) (up sent : Bool) (out : List ℕ) → (3 ≤ length (more r up sent out)) × (length (more r up sent out) ≤ 4 + 2 * length out)
@@ -49,7 +49,7 @@ returns c =
     let r : Reply = record { number = s.args.shown.0; value = s.args.shown.1 } in
     let m = more-length r s.args.up s.args.sent s.args.out.now in
     let e = c.more_at.ensures in
-    let last = writes_on (omega (arith, number-ends c.before.before.before.before.before.before.before.before.before.before, s.requires.1, c.more_at.new.lines.given)) c.shown_at-c.ensures e in (
+    let last = writes_on (omega (arith, number-ends c.before.before.before.before.before.before.before.before.before.before, s.requires.1, c.lines-1.given)) c.shown_at-c.ensures e in (
       writes_as (parts (decimal s.args.counter.number) (decimal s.args.shown.0) (hex4 s.args.shown.1) (more r s.args.up s.args.sent s.args.out.now))
           (goes_on_lem c.number_at-b.ensures last (omega (arith, n.0, m.0, length-append (rest s.args.shown.0 s.args.shown.1) (more r s.args.up s.args.sent s.args.out.now)))),
       omega (arith, value-ends c.before.before.before.before.before.before, e.place, m.1),

@@ -4,20 +4,20 @@ use borrow.Author.Rules.{rules}
 use Rattle.strip_chip.proofs.driver.access.Statement.{statement}
 use Rattle.strip_chip.proofs.driver.access.Tie as tie
 
-accessed-whole-requires : tie.Need-accessed-whole-requires
-accessed-whole-requires c κs = let t = c.before.before.before.before in t.before.in_order.ensures.sound t.if1.true
+accessed-whole-requires : tie.Need-accessed_whole-answer-requires
+accessed-whole-requires c κs = let t = c in t.in_order.ensures.sound t.if-in_order.true
 
-returns : tie.Need-returns
-returns c = let f = c.before.before.before.before.before in
-    let t = f.before.before.before.before.before in
-    let o = t.before in
-    answered _ (o.in_order.ensures.sound t.if1.true) f.accessed-whole.ensures
+returns : tie.Need-returns-then-in_order
+returns c = let f = c in
+    let t = c in
+    let o = c in
+    answered _ (o.in_order.ensures.sound t.if-in_order.true) f.accessed_whole-answer.ensures
 
-returns-2 : tie.Need-returns-2
-returns-2 c = damaged _ (not_so c.before.in_order.ensures c.if1.false)
+returns-2 : tie.Need-returns-else-in_order
+returns-2 c = damaged _ (not_so c.in_order.ensures c.if-in_order.false)
 
-pub access-spec : {M : Type 1} → statement M
-access-spec =
+pub access_spec : {M : Type 1} → statement M
+access_spec =
     tie.close
     (tie.spec
     (λ c. search rules)

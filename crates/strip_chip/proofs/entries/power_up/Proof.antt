@@ -5,10 +5,10 @@ use Rattle.strip_chip.proofs.entries.power_up.Statement.{statement}
 use Rattle.strip_chip.proofs.entries.power_up.Tie as tie
 
 returns : tie.Need-returns
-returns c = c.before.before.before.powered.ensures
+returns c = c.powered.ensures
 
-pub power-up-spec : {M : Type 1} → statement M
-power-up-spec =
+pub power_up_spec : {M : Type 1} → statement M
+power_up_spec =
     tie.close
     (tie.spec
     (λ c. search rules)

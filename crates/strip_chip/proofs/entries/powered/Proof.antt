@@ -25,7 +25,7 @@ begins n {w = w} {w' = w'} {s' = s'} {q' = q'} blank reset size none empty =
     let e = subst (λ (k : ℕ). EmptiedOf strips k w w' s' q') size none in
     starts n e.sound (powers_up (subst (λ (v : List ℕ). WordsReset v w) blank reset) e (zeros strips n)) (ap (λ (r : List ℕ). s' ++ r) empty)
 
-module _ (p : tie.After-packets-of) where
+module _ (p : tie.After-packets_of-n) where
   abbrev start : tie.Start
   start = p.before.before.before.before
 
@@ -33,37 +33,37 @@ module _ (p : tie.After-packets-of) where
   counts = start.args.counts.now
 
   abbrev n : ℕ
-  n = p.packets-of.result
+  n = p.packets_of-n.result
 
   named : IsPart n
-  named = subst IsPart (sym p.packets-of.ensures) (is_a_part start.args.part)
+  named = subst IsPart (sym p.packets_of-n.ensures) (is_a_part start.args.part)
 
   fits : n ≤ length counts
-  fits = omega (arith, part_few named, ap length start.pre.1)
+  fits = omega (arith, part_few named, ap length start.requires.1)
 
   long : n ≡ length (take n counts)
   long = sym (length-take-le n counts fits)
 
   -- nothing stands behind the part's places
   behind : drop n counts ≡ replicate (24 - packets_of start.args.part) 0
-  behind = ap₂ drop p.packets-of.ensures start.pre.1 ∙ zeros_behind start.args.part
+  behind = ap₂ drop p.packets_of-n.ensures start.requires.1 ∙ zeros_behind start.args.part
 
 returns : tie.Need-returns
 returns c =
-    let r = c.before.before.before.before.before.before in
-    let w = r.before.before.before.before.before.before in
-    let p = w.before.before in
-    begins (packets_of (start p).args.part) (start p).requires.0 w.reset-words.ensures (sym (long p) ∙ p.packets-of.ensures) r.reset.ensures (behind p)
+    let r = c in
+    let w = c in
+    let p = c.before.before.before.before.before.before.before.before.before.before.before.before.before.before in
+    begins (packets_of (start p).args.part) (start p).requires.0 w.reset_words.ensures (sym (long p) ∙ p.packets_of-n.ensures) r.reset.ensures (behind p)
 
-pub powered-spec : {M : Type 1} → statement M
-powered-spec =
+pub powered_spec : {M : Type 1} → statement M
+powered_spec =
     tie.close
     (tie.spec
     (λ c κs. search rules)
     (λ c κs. search rules)
     (λ c. fits c.before.before.before.before.before)
     (λ c. long c.before.before.before.before.before.before)
-    (λ c κs. let w = c.before.before.before.before.before in let p = w.before.before in (w.reset-words.ensures.kept, subst IsPart (long p) (named p), (start p).requires.2))
+    (λ c κs. let w = c.before.before.before.before.before in let p = w.before.before in (w.reset_words.ensures.kept, subst IsPart (long p) (named p), (start p).requires.2))
     (λ c. search rules)
     (λ c. search rules)
     (λ c. search rules)

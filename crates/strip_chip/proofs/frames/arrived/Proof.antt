@@ -7,24 +7,24 @@ use Rattle.strip_chip.proofs.frames.arrived.Tie as tie
 arrived-requires : tie.Need-arrived-requires
 arrived-requires c κs = search rules
 
-same_length : tie.Need-same-length
+same_length : tie.Need-shape_of-words
 same_length c = search rules
 
-same-length-2 : tie.Need-same-length-2
+same-length-2 : tie.Need-shape_of-counts
 same-length-2 c = search rules
 
-same-length-3 : tie.Need-same-length-3
+same-length-3 : tie.Need-shape_of-queues
 same-length-3 c = search rules
 
-same-length-4 : tie.Need-same-length-4
+same-length-4 : tie.Need-shape_of-memory
 same-length-4 c = search rules
 
 returns : tie.Need-returns
-returns c = let r = c.before.before.before.before.before.before.before.before in
-    let s = r.before.before.before.before.before.before.before.before.before.before in
+returns c = let r = c in
+    let s = c in
     right_frame _ _ _ _ s.requires _ _ _ _ _ _ r.arrived.ensures
 
-pub arrived-spec : {M : Type 1} → statement M
-arrived-spec =
+pub arrived_spec : {M : Type 1} → statement M
+arrived_spec =
     tie.close
     (tie.spec arrived-requires same_length same-length-2 same-length-3 same-length-4 returns)

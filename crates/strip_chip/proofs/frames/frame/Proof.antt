@@ -4,20 +4,20 @@ use borrow.Author.Rules.{rules}
 use Rattle.strip_chip.proofs.frames.frame.Statement.{statement}
 use Rattle.strip_chip.proofs.frames.frame.Tie as tie
 
-arrived-whole-requires : tie.Need-arrived-whole-requires
-arrived-whole-requires c κs = let t = c.before.before.before.before in t.before.in_order.ensures.sound t.if1.true
+arrived-whole-requires : tie.Need-arrived_whole-answer-requires
+arrived-whole-requires c κs = let t = c in t.in_order.ensures.sound t.if-in_order.true
 
-returns : tie.Need-returns
-returns c = let f = c.before.before.before.before.before in
-    let t = f.before.before.before.before.before in
-    let o = t.before in
-    answered _ (o.in_order.ensures.sound t.if1.true) f.arrived-whole.ensures
+returns : tie.Need-returns-then-in_order
+returns c = let f = c in
+    let t = c in
+    let o = c in
+    answered _ (o.in_order.ensures.sound t.if-in_order.true) f.arrived_whole-answer.ensures
 
-returns-2 : tie.Need-returns-2
-returns-2 c = damaged _ (not_so c.before.in_order.ensures c.if1.false)
+returns-2 : tie.Need-returns-else-in_order
+returns-2 c = damaged _ (not_so c.in_order.ensures c.if-in_order.false)
 
-pub frame-spec : {M : Type 1} → statement M
-frame-spec =
+pub frame_spec : {M : Type 1} → statement M
+frame_spec =
     tie.close
     (tie.spec
     (λ c. search rules)

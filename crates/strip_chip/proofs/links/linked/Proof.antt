@@ -7,9 +7,9 @@ use Rattle.strip_chip.proofs.links.linked.Tie as tie
 
 returns : tie.Need-returns
 returns c =
-    let r = c.before.before in
-    let s = r.before.before.before.before.before.before in
+    let r = c in
+    let s = c in
     right_link _ _ _ _ s.requires _ _ _ _ _ _ (does_makes r.plug.ensures.0 s.requires.ready.sound _)
 
-pub linked-spec : {M : Type 1} → statement M
-linked-spec = tie.close (tie.spec (λ c κs. search rules) (λ c. search rules) returns)
+pub linked_spec : {M : Type 1} → statement M
+linked_spec = tie.close (tie.spec (λ c κs. search rules) (λ c. search rules) returns)

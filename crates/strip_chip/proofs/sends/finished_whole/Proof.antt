@@ -4,23 +4,23 @@ use borrow.Author.Rules.{rules}
 use Rattle.strip_chip.proofs.sends.finished_whole.Statement.{statement}
 use Rattle.strip_chip.proofs.sends.finished_whole.Tie as tie
 
-abbrev start : tie.After-size-in → tie.Start
-start n = n.before.before.before.before.before.before.before
+abbrev start : tie.After-size_in-n → tie.Start
+start n = n.before.before.before.before.before.before
 
 returns : tie.Need-returns
 returns c =
-    let r = c.before.before.before.before.before.before.before.before.before.before in
-    let n = r.before.before.before.before.before.before in
-    leaves_part (start n).requires n.size_in.ensures _ _ r.finished.ensures
+    let r = c in
+    let n = c.before.before.before.before.before.before.before.before.before.before.before.before.before.before.before.before in
+    leaves_part (start n).requires n.size_in-n.ensures _ _ r.finished.ensures
 
-pub finished-whole-spec : {M : Type 1} → statement M
-finished-whole-spec =
+pub finished_whole_spec : {M : Type 1} → statement M
+finished_whole_spec =
     tie.close
     (tie.spec
     (λ c κs. search rules)
-    (λ c. let n = c.before in part_fits (start n).requires n.size_in.ensures)
-    (λ c. let n = c.before.before in part_count (start n).requires n.size_in.ensures)
-    (λ c κs. let n = c.before.before.before.before.before in lent_part (start n).requires n.size_in.ensures)
+    (λ c. let n = c.before in part_fits (start n).requires n.size_in-n.ensures)
+    (λ c. let n = c.before.before in part_count (start n).requires n.size_in-n.ensures)
+    (λ c κs. let n = c.before.before.before.before.before in lent_part (start n).requires n.size_in-n.ensures)
     (λ c. search rules)
     (λ c. search rules)
     (λ c. search rules)

@@ -9,54 +9,54 @@ use Rattle.turns.specs.Served.{asked, asked_short, asked_whole}
 use Rattle.strip_turns.proofs.turn.answer.Statement.{statement}
 use Rattle.strip_turns.proofs.turn.answer.Tie as tie
 
-returns : tie.Need-returns
-returns c = let s = c.before.before.before.before.before.before.before.before in turns_as _ (asked_short s.args.bytes.now (omega (arith, c.if1.true))) (unknown_turns _ s.requires.0)
+returns : tie.Need-returns-then-bytes-lt8
+returns c = let s = c in turns_as _ (asked_short s.args.bytes.now (omega (arith, c.if-bytes-lt8.true))) (unknown_turns _ s.requires.0)
 
-event-of-requires : tie.Need-event-of-requires
-event-of-requires c κs = omega (arith, c.if1.false, c.before.before.before.before.before.before.before.before.requires.1)
+event-of-requires : tie.Need-event_of-event-requires
+event-of-requires c κs = omega (arith, c.if-bytes-lt8.false, c.requires.1)
 
 -- the record is whole, and its event the arm's
-as-told : (d : tie.After-event-of) {k : Event} → d.event-of.result ≡ k → asked d.before.before.before.before.before.before.before.before.before.args.bytes.now ≡ meant k d.before.before.before.before.before.before.before.before.before.args.bytes.now
-as-told d e = let s = d.before.before.before.before.before.before.before.before.before in asked_whole s.args.bytes.now (omega (arith, d.before.if1.false)) ∙ told s.args.bytes.now d.event-of.ensures e
+as-told : (d : tie.After-event_of-event) {k : Event} → d.event_of-event.result ≡ k → asked d.args.bytes.now ≡ meant k d.args.bytes.now
+as-told d e = let s = d in asked_whole s.args.bytes.now (omega (arith, d.if-bytes-lt8.false)) ∙ told s.args.bytes.now d.event_of-event.ensures e
 
-returns-2 : tie.Need-returns-2
+returns-2 : tie.Need-returns-in-Read
 returns-2 c =
-    let d = c.before.before.before.before.before.before.before.before.before.before in
-    turns_as _ (as-told d c.before.before.before.before.before.before.before.before.event.given.1) (access_turns _ d.before.before.before.before.before.before.before.before.before.requires.0 _ c.before.before.read.ensures)
+    let d = c.before.before.before.before.before in
+    turns_as _ (as-told d c.in-Read.is) (access_turns _ d.requires.0 _ c.read.ensures)
 
-returns-3 : tie.Need-returns-3
+returns-3 : tie.Need-returns-in-Write
 returns-3 c =
-    let d = c.before.before.before.before.before.before.before.before.before.before.before.before.before.before.before.before in
-    turns_as _ (as-told d c.before.before.before.before.before.before.before.before.before.before.before.before.before.before.event2.given.1) (access_turns _ d.before.before.before.before.before.before.before.before.before.requires.0 _ c.before.before.before.before.before.before.before.before.write.ensures)
+    let d = c.before.before.before.before.before.before.before.before.before.before.before.before.before.before in
+    turns_as _ (as-told d c.in-Write.is) (access_turns _ d.requires.0 _ c.write.ensures)
 
-returns-4 : tie.Need-returns-4
+returns-4 : tie.Need-returns-in-Wire
 returns-4 c =
-    let d = c.before.before.before.before.before.before.before.before in
-    turns_as _ (as-told d c.before.before.before.before.before.before.event3.given.1) (wire_turns _ d.before.before.before.before.before.before.before.before.before.requires.0 c.before.before.gather_more.ensures)
+    let d = c.before.before.before.before.before.before in
+    turns_as _ (as-told d c.in-Wire.is) (wire_turns _ d.requires.0 c.gather_more.ensures)
 
-returns-5 : tie.Need-returns-5
+returns-5 : tie.Need-returns-in-Ends
 returns-5 c =
-    let d = c.before.before.before.before.before.before.before.before.before.before.before.before.before.before.before.before.before.before in
-    turns_as _ (as-told d c.before.before.before.before.before.before.before.before.before.before.before.before.before.before.before.before.event4.given.1) (frame_turns _ d.before.before.before.before.before.before.before.before.before.requires.0 _ c.before.before.before.before.before.before.before.before.frame-ends.ensures)
+    let d = c.before.before.before.before.before.before.before.before.before.before.before.before.before.before.before in
+    turns_as _ (as-told d c.in-Ends.is) (frame_turns _ d.requires.0 _ c.frame_ends.ensures)
 
-returns-6 : tie.Need-returns-6
+returns-6 : tie.Need-returns-in-Send
 returns-6 c =
-    let d = c.before.before.before.before.before.before.before.before.before.before.before.before.before.before.before.before.before.before.before in
-    turns_as _ (as-told d c.before.before.before.before.before.before.before.before.before.before.before.before.before.before.before.before.before.event5.given.1) (send_turns d.before.before.before.before.before.before.before.before.before.args.out.now d.before.before.before.before.before.before.before.before.before.requires.0 _ c.before.before.before.before.before.before.before.before.before.before.finished.ensures)
+    let d = c.before.before.before.before.before.before.before.before.before.before.before.before.before.before.before.before.before in
+    turns_as _ (as-told d c.in-Send.is) (send_turns d.args.out.now d.requires.0 _ c.finished.ensures)
 
-returns-7 : tie.Need-returns-7
+returns-7 : tie.Need-returns-in-Link
 returns-7 c =
-    let d = c.before.before.before.before.before.before.before.before.before.before in
-    turns_as _ (as-told d c.before.before.before.before.before.before.before.before.event6.given.1) (link_turns _ d.before.before.before.before.before.before.before.before.before.requires.0 _ c.before.before.linked.ensures)
+    let d = c.before.before.before.before.before in
+    turns_as _ (as-told d c.in-Link.is) (link_turns _ d.requires.0 _ c.linked.ensures)
 
-returns-8 : tie.Need-returns-8
-returns-8 c = let d = c.before.before in turns_as _ (as-told d c.enum_told.given.1) (part_turns _ d.before.before.before.before.before.before.before.before.before.requires.0 _)
+returns-8 : tie.Need-returns-in-Part
+returns-8 c = let d = c.before in turns_as _ (as-told d c.in-Part.is) (part_turns _ d.requires.0 _)
 
-returns-9 : tie.Need-returns-9
-returns-9 c = let d = c.before.before in turns_as _ (as-told d c.enum-told2.given.1) (unknown_turns _ d.before.before.before.before.before.before.before.before.before.requires.0)
+returns-9 : tie.Need-returns-in-Unknown
+returns-9 c = let d = c.before in turns_as _ (as-told d c.in-Unknown.is) (unknown_turns _ d.requires.0)
 
-pub answer-spec : {M : Type 1} → statement M
-answer-spec =
+pub answer_spec : {M : Type 1} → statement M
+answer_spec =
     tie.close
     (tie.spec
     returns

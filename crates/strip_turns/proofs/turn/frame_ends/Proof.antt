@@ -6,14 +6,14 @@ use lib.Seq.{length-take-le}
 use Rattle.strip_turns.proofs.turn.frame_ends.Statement.{statement}
 use Rattle.strip_turns.proofs.turn.frame_ends.Tie as tie
 
-slice-aggregate-arrived : tie.Need-slice-aggregate-arrived
+slice-aggregate-arrived : tie.Need-slice_bounds-arrived-end
 slice-aggregate-arrived c = sym (length-take-le _ _ (omega arith))
 
 returns : tie.Need-returns
-returns c = (c.before.before.before.before.before.before.before.before.arrived.ensures, refl)
+returns c = (c.arrived.ensures, refl)
 
-pub frame-ends-spec : {M : Type 1} → statement M
-frame-ends-spec =
+pub frame_ends_spec : {M : Type 1} → statement M
+frame_ends_spec =
     tie.close
     (tie.spec
     slice-aggregate-arrived

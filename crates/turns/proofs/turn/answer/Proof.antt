@@ -9,47 +9,47 @@ use Rattle.turns.proofs.turn.answer.Statement.{statement}
 use Rattle.turns.proofs.turn.answer.Tie as tie
 
 -- the record's event is the arm's
-as-told : (d : tie.After-event-of) {k : Event} → d.event-of.result ≡ k → event_of d.before.before.before.before.before.before.before.before.args.bytes.now ≡ meant k d.before.before.before.before.before.before.before.before.args.bytes.now
-as-told d = told d.before.before.before.before.before.before.before.before.args.bytes.now d.event-of.ensures
+as-told : (d : tie.After-event_of-event) {k : Event} → d.event_of-event.result ≡ k → event_of d.args.bytes.now ≡ meant k d.args.bytes.now
+as-told d = told d.args.bytes.now d.event_of-event.ensures
 
-returns : tie.Need-returns
+returns : tie.Need-returns-in-Read
 returns c =
-    let d = c.before.before.before.before.before.before.before.before.before.before in
-    turns_as _ (as-told d c.before.before.before.before.before.before.before.before.event.given.1) (access_turns _ d.before.before.before.before.before.before.before.before.requires.0 _ c.before.before.read.ensures)
+    let d = c.before.before.before.before.before in
+    turns_as _ (as-told d c.in-Read.is) (access_turns _ d.requires.0 _ c.read.ensures)
 
-returns-2 : tie.Need-returns-2
+returns-2 : tie.Need-returns-in-Write
 returns-2 c =
-    let d = c.before.before.before.before.before.before.before.before.before.before.before.before.before.before.before.before in
-    turns_as _ (as-told d c.before.before.before.before.before.before.before.before.before.before.before.before.before.before.event2.given.1) (access_turns _ d.before.before.before.before.before.before.before.before.requires.0 _ c.before.before.before.before.before.before.before.before.write.ensures)
+    let d = c.before.before.before.before.before.before.before.before.before.before.before.before.before.before in
+    turns_as _ (as-told d c.in-Write.is) (access_turns _ d.requires.0 _ c.write.ensures)
 
-returns-3 : tie.Need-returns-3
+returns-3 : tie.Need-returns-in-Wire
 returns-3 c =
-    let d = c.before.before.before.before.before.before.before.before in
-    turns_as _ (as-told d c.before.before.before.before.before.before.event3.given.1) (wire_turns _ d.before.before.before.before.before.before.before.before.requires.0 c.before.before.gather_more.ensures)
+    let d = c.before.before.before.before.before.before in
+    turns_as _ (as-told d c.in-Wire.is) (wire_turns _ d.requires.0 c.gather_more.ensures)
 
-returns-4 : tie.Need-returns-4
+returns-4 : tie.Need-returns-in-Ends
 returns-4 c =
-    let d = c.before.before.before.before.before.before.before.before.before.before.before.before.before.before.before.before.before.before in
-    turns_as _ (as-told d c.before.before.before.before.before.before.before.before.before.before.before.before.before.before.before.before.event4.given.1) (frame_turns _ d.before.before.before.before.before.before.before.before.requires.0 _ c.before.before.before.before.before.before.before.before.frame-ends.ensures)
+    let d = c.before.before.before.before.before.before.before.before.before.before.before.before.before.before.before in
+    turns_as _ (as-told d c.in-Ends.is) (frame_turns _ d.requires.0 _ c.frame_ends.ensures)
 
-returns-5 : tie.Need-returns-5
+returns-5 : tie.Need-returns-in-Send
 returns-5 c =
-    let d = c.before.before.before.before.before.before.before.before.before.before.before.before.before.before.before.before.before.before.before in
-    turns_as _ (as-told d c.before.before.before.before.before.before.before.before.before.before.before.before.before.before.before.before.before.event5.given.1) (send_turns d.before.before.before.before.before.before.before.before.args.out.now d.before.before.before.before.before.before.before.before.requires.0 _ c.before.before.before.before.before.before.before.before.before.before.finished.ensures)
+    let d = c.before.before.before.before.before.before.before.before.before.before.before.before.before.before.before.before.before in
+    turns_as _ (as-told d c.in-Send.is) (send_turns d.args.out.now d.requires.0 _ c.finished.ensures)
 
-returns-6 : tie.Need-returns-6
+returns-6 : tie.Need-returns-in-Link
 returns-6 c =
-    let d = c.before.before.before.before.before.before.before.before.before.before in
-    turns_as _ (as-told d c.before.before.before.before.before.before.before.before.event6.given.1) (link_turns _ d.before.before.before.before.before.before.before.before.requires.0 _ c.before.before.linked.ensures)
+    let d = c.before.before.before.before.before in
+    turns_as _ (as-told d c.in-Link.is) (link_turns _ d.requires.0 _ c.linked.ensures)
 
-returns-7 : tie.Need-returns-7
-returns-7 c = let d = c.before.before in turns_as _ (as-told d c.enum_told.given.1) (part_turns _ d.before.before.before.before.before.before.before.before.requires.0 _)
+returns-7 : tie.Need-returns-in-Part
+returns-7 c = let d = c.before in turns_as _ (as-told d c.in-Part.is) (part_turns _ d.requires.0 _)
 
-returns-8 : tie.Need-returns-8
-returns-8 c = let d = c.before.before in turns_as _ (as-told d c.enum-told2.given.1) (unknown_turns _ d.before.before.before.before.before.before.before.before.requires.0)
+returns-8 : tie.Need-returns-in-Unknown
+returns-8 c = let d = c.before in turns_as _ (as-told d c.in-Unknown.is) (unknown_turns _ d.requires.0)
 
-pub answer-spec : {M : Type 1} → statement M
-answer-spec =
+pub answer_spec : {M : Type 1} → statement M
+answer_spec =
     tie.close
     (tie.spec
     (λ c κs. search rules)

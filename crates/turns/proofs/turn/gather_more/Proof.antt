@@ -5,22 +5,22 @@ use borrow.Author.Rules.{rules}
 use Rattle.turns.proofs.turn.gather_more.Statement.{statement}
 use Rattle.turns.proofs.turn.gather_more.Tie as tie
 
-returns : tie.Need-returns
+returns : tie.Need-returns-in-More
 returns c =
-    let g = c.before.before.before.before.before in
-    let s = g.before.before.before.before.before in
-    let k = subst (λ (j : Gathering). Gathers s.args.wire.now s.args.have.now s.args.bytes.now s.args.count g.gathered.new.0 j) c.before.gathering.given.1 g.gathered.ensures in
+    let g = c in
+    let s = c in
+    let k = subst (λ (j : Gathering). Gathers s.args.wire.now s.args.have.now s.args.bytes.now s.args.count g.gathered-gathering.new.wire j) c.in-More.is g.gathered-gathering.ensures in
     record { rule = k.rule; room = search rules; few = k.room }
 
-returns-2 : tie.Need-returns-2
+returns-2 : tie.Need-returns-in-Refused
 returns-2 c =
-    let g = c.before.before.before.before in
-    let s = g.before.before.before.before.before in
-    let k = subst (λ (j : Gathering). Gathers s.args.wire.now s.args.have.now s.args.bytes.now s.args.count g.gathered.new.0 j) c.enum_told.given.1 g.gathered.ensures in
+    let g = c in
+    let s = c in
+    let k = subst (λ (j : Gathering). Gathers s.args.wire.now s.args.have.now s.args.bytes.now s.args.count g.gathered-gathering.new.wire j) c.in-Refused.is g.gathered-gathering.ensures in
     record { rule = k.rule; room = search rules; few = k.room }
 
-pub gather-more-spec : {M : Type 1} → statement M
-gather-more-spec =
+pub gather_more_spec : {M : Type 1} → statement M
+gather_more_spec =
     tie.close
     (tie.spec
     (λ c κs. search rules)
