@@ -9,18 +9,18 @@ use Rattle.batches.proofs.Forms.{last_none, last_some, unknown_unsent}
 use Rattle.batches.proofs.batch.last_line.Statement.{statement}
 use Rattle.batches.proofs.batch.last_line.Tie as tie
 
-returns : tie.Need-returns
-returns c = (λ s q mem wire h. sym (last_none (form_of c.before.before.before.before.args.watching) c.before.before.before.before.args.number _ c.if1.true), search rules)
+returns : tie.Need-returns-then-kept-eq0
+returns c = (λ s q mem wire h. sym (last_none (form_of c.args.watching) c.args.number _ c.if-kept-eq0.true), search rules)
 
-returns-2 : tie.Need-returns-2
+returns-2 : tie.Need-returns
 unfolding answer
 returns-2 c =
-    let l = c.before.before in
-    let f = l.before.before in
-    let s = f.before.before.before.before in (
-      λ sets q mem wire h. l.lone-line.ensures.0 unknown sets q mem wire (sym unknown_unsent) h ∙ sym (last_some (form_of s.args.watching) s.args.kept s.args.number (holding (view s.args.words.now sets q mem) wire s.args.out.now) f.if1.false),
-      l.lone-line.ensures.1,
+    let l = c in
+    let f = c in
+    let s = c in (
+      λ sets q mem wire h. l.lone_line.ensures.0 unknown sets q mem wire (sym unknown_unsent) h ∙ sym (last_some (form_of s.args.watching) s.args.kept s.args.number (holding (view s.args.words.now sets q mem) wire s.args.out.now) f.if-kept-eq0.false),
+      l.lone_line.ensures.1,
     )
 
-pub last-line-spec : {M : Type 1} → statement M
-last-line-spec = tie.close (tie.spec returns (λ c κs. search rules) (λ c. search rules) returns-2)
+pub last_line_spec : {M : Type 1} → statement M
+last_line_spec = tie.close (tie.spec returns (λ c κs. search rules) (λ c. search rules) returns-2)

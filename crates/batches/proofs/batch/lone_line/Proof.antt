@@ -16,20 +16,20 @@ use Rattle.batches.proofs.batch.lone_line.Tie as tie
 
 print-requires : tie.Need-print-requires
 print-requires c κs =
-    let s = c.before.before.before.before.before.before in
+    let s = c in
     let w = s.args.watching in
-    (counter_counts c.before.before.counter-of.ensures, s.requires.2, omega (arith, room_none w, room_more w 0, s.requires.3))
+    (counter_counts c.counter_of-counter.ensures, s.requires.2, omega (arith, room_none w, room_more w 0, s.requires.3))
 
 returns : tie.Need-returns
 returns c =
-    let s = c.before.before.before.before.before.before.before.before.before in
+    let s = c in
     let w = s.args.watching in
-    let p = c.before.before.print.ensures in (
+    let p = c.print.ensures in (
       λ e sets q mem wire quiet h.
-          taken (omega arith) (p.0 (view s.args.words.now sets q mem) wire e (c.before.before.before.before.line-up.ensures paged sets q mem h) (sym quiet))
-          ∙ ap (λ (k : ℕ). form_of w k e (record { reply = reply_of s.args.answer; after = holding (view s.args.words.now sets q mem) wire s.args.out.now })) (counter_number c.before.before.before.before.before.counter-of.ensures),
+          taken (omega arith) (p.0 (view s.args.words.now sets q mem) wire e (c.line_up-up.ensures paged sets q mem h) (sym quiet))
+          ∙ ap (λ (k : ℕ). form_of w k e (record { reply = reply_of s.args.answer; after = holding (view s.args.words.now sets q mem) wire s.args.out.now })) (counter_number c.counter_of-counter.ensures),
       omega (arith, p.1, room_none w, room_more w 0, s.requires.3),
     )
 
-pub lone-line-spec : {M : Type 1} → statement M
-lone-line-spec = tie.close (tie.spec (λ c κs. search rules) (λ c κs. let s = c.before.before.before.before in (s.requires.0, s.requires.1)) print-requires (λ c. search rules) returns)
+pub lone_line_spec : {M : Type 1} → statement M
+lone_line_spec = tie.close (tie.spec (λ c κs. search rules) (λ c κs. let s = c in (s.requires.0, s.requires.1)) print-requires (λ c. search rules) returns)

@@ -7,11 +7,11 @@ use borrow.Author.Rules.{rules}
 use Rattle.lent.proofs.order.ready.Statement.{statement}
 use Rattle.lent.proofs.order.ready.Tie as tie
 
-returns : tie.Need-returns
-returns c = record { sound = λ e. absurd (true≢false (sym e)); complete = λ o. absurd (not_in c.before.sized.ensures (ap not c.if1.true) (record { words = o.ready.sound.kept.whole; sets = record_long o; queues = o.ready.sound.queues.long })) }
+returns : tie.Need-returns-then-not-sized
+returns c = record { sound = λ e. absurd (true≢false (sym e)); complete = λ o. absurd (not_in c.sized.ensures (ap not c.if-not-sized.true) (record { words = o.ready.sound.kept.whole; sets = record_long o; queues = o.ready.sound.queues.long })) }
 
-well-formed-requires : tie.Need-well-formed-requires
-well-formed-requires c κs = let z = is_in c.before.sized.ensures (ap not c.if1.false) in (z.words, z.sets, z.queues)
+well-formed-requires : tie.Need-well_formed-requires
+well-formed-requires c κs = let z = is_in c.sized.ensures (ap not c.if-not-sized.false) in (z.words, z.sets, z.queues)
 
-pub ready-spec : {M : Type 1} → statement M
-ready-spec = tie.close (tie.spec (λ c κs. search rules) returns well-formed-requires (λ c. search rules))
+pub ready_spec : {M : Type 1} → statement M
+ready_spec = tie.close (tie.spec (λ c κs. search rules) returns well-formed-requires (λ c. search rules))

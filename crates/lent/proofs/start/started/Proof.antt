@@ -10,38 +10,38 @@ use Rattle.lent.proofs.start.started.Statement.{statement}
 use Rattle.lent.proofs.start.started.Tie as tie
 
 -- so many bytes are the part's
-module _ (x : tie.After-packets-of) where
+module _ (x : tie.After-packets_of-n) where
   abbrev start : tie.Start
   start = x.before.before.before.before.before
 
   abbrev n : ℕ
-  n = 256 * x.packets-of.result
+  n = 256 * x.packets_of-n.result
 
   abbrev mem : List ℕ
   mem = start.args.memory.now
 
   fits : n ≤ length mem
-  fits = omega (arith, x.packets-of.ensures, start.pre.1)
+  fits = omega (arith, x.packets_of-n.ensures, start.requires.1)
 
   many : n ≡ length (take n mem)
   many = sym (length-take-le n mem fits)
 
 returns : tie.Need-returns
 returns c =
-    let p = c.before.before.before.before.before.before.before.before.before.before in
-    let x = p.before.before.before.before in
+    let p = c in
+    let x = c.before.before.before.before.before.before.before.before.before.before.before.before.before.before in
     record {
       state = p.powered.ensures;
-      memory = ap (λ (l : List ℕ). l ++ drop (n x) (mem x)) (c.before.before.zeroed.ensures ∙ ap (λ (k : ℕ). replicate k 0) (sym (many x))) ∙ ap (λ (k : ℕ). replicate (256 * k) 0 ++ drop (256 * k) (mem x)) x.packets-of.ensures;
+      memory = ap (λ (l : List ℕ). l ++ drop (n x) (mem x)) (c.zeroed.ensures ∙ ap (λ (k : ℕ). replicate k 0) (sym (many x))) ∙ ap (λ (k : ℕ). replicate (256 * k) 0 ++ drop (256 * k) (mem x)) x.packets_of-n.ensures;
     }
 
-pub started-spec : {M : Type 1} → statement M
-started-spec =
+pub started_spec : {M : Type 1} → statement M
+started_spec =
     tie.close
     (tie.spec
     (λ c κs. search rules)
     (λ c. search rules)
-    (λ c κs. let z = c.before.before.before.before.before.before.before.before.requires.0 in (z.words, z.sets, z.queues))
+    (λ c κs. let z = c.requires.0 in (z.words, z.sets, z.queues))
     (λ c. fits c.before.before.before.before.before.before.before.before.before.before)
     (λ c. many c.before.before.before.before.before.before.before.before.before.before.before)
     (λ c κs. search rules)
