@@ -9,8 +9,7 @@ use lent::{in_order, told, width_of};
 use state::Answer;
 
 // Reads a word or a byte.
-#[unsafe(no_mangle)]
-pub extern "C" fn skarvoya_read(
+pub fn skarvoya_read(
     words: &mut [u16],
     sets: &[u32],
     queues: &[u8],
@@ -27,8 +26,7 @@ pub extern "C" fn skarvoya_read(
 }
 
 // Writes a word, or the value's low byte.
-#[unsafe(no_mangle)]
-pub extern "C" fn skarvoya_write(
+pub fn skarvoya_write(
     words: &mut [u16],
     sets: &mut [u32],
     queues: &mut [u8],

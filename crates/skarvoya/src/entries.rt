@@ -5,8 +5,7 @@ use lent::{long_as, ready, started, told};
 use state::{Answer, Named};
 
 // The part that a byte names, at power-up.
-#[unsafe(no_mangle)]
-pub extern "C" fn skarvoya_power_up(
+pub fn skarvoya_power_up(
     part: u8,
     words: &mut [u16],
     sets: &mut [u32],
@@ -28,8 +27,7 @@ pub extern "C" fn skarvoya_power_up(
 }
 
 // Is the interrupt line up? 1 or 0.
-#[unsafe(no_mangle)]
-pub extern "C" fn skarvoya_line(words: &[u16], sets: &[u32], queues: &[u8]) -> u32
+pub fn skarvoya_line(words: &[u16], sets: &[u32], queues: &[u8]) -> u32
     ensures { ShowsLine words.now sets.now queues.now result }
 {
     if !ready(words, sets, queues) {

@@ -8,8 +8,7 @@ use lent::{in_order, told};
 use state::Answer;
 
 // A frame arrives: its bytes with FCS, and the flag alignment.
-#[unsafe(no_mangle)]
-pub extern "C" fn skarvoya_frame(
+pub fn skarvoya_frame(
     words: &mut [u16],
     sets: &mut [u32],
     queues: &mut [u8],
@@ -26,8 +25,7 @@ pub extern "C" fn skarvoya_frame(
 }
 
 // The packet at the head of TX has been sent; what is put out goes to the front of the output buffer.
-#[unsafe(no_mangle)]
-pub extern "C" fn skarvoya_send(
+pub fn skarvoya_send(
     words: &mut [u16],
     sets: &mut [u32],
     queues: &mut [u8],
@@ -48,14 +46,7 @@ pub extern "C" fn skarvoya_send(
 }
 
 // The link is set down (0) or up (1).
-#[unsafe(no_mangle)]
-pub extern "C" fn skarvoya_link(
-    words: &mut [u16],
-    sets: &[u32],
-    queues: &[u8],
-    memory: &[u8],
-    up: u8,
-) -> u32
+pub fn skarvoya_link(words: &mut [u16], sets: &[u32], queues: &[u8], memory: &[u8], up: u8) -> u32
     ensures { Calls (rules.link up) words.old sets.now queues.now memory.now result words.new sets.now queues.now memory.now [] }
 {
     if !in_order(words, sets, queues, memory) {

@@ -153,8 +153,7 @@ fn roomy(output: &[u8], line: &[u8]) -> bool
 }
 
 // A record of the bench: it is answered, and its line is printed. `count` is how many records there were before.
-#[unsafe(no_mangle)]
-pub extern "C" fn skarvoya_record(
+pub fn skarvoya_record(
     words: &mut [u16],
     sets: &mut [u32],
     queues: &mut [u8],

@@ -34,7 +34,7 @@ pub enum Width {
 }
 
 // The answers; `reply_of` gives document 01's number and value of each.
-#[derive(Drop)]
+#[derive(Clone, Copy)]
 pub enum Answer {
     Done(u16),
     Misplaced,

@@ -1,21 +1,23 @@
 -- By what the check says, then as the arrival says.
+use mathlib.Core.Bool.{not}
+use mathlib.Core.Path.{ap}
 use Rattle.chip.specs.Rights.{not_in, is_in}
 use Rattle.skarvoya.specs.Called.{refuses, calls}
 use borrow.Author.Rules.{rules}
 use Rattle.skarvoya.proofs.events.skarvoya_frame.Statement.{statement}
 use Rattle.skarvoya.proofs.events.skarvoya_frame.Tie as tie
 
-returns : tie.Need-returns
-returns c = refuses _ (not_in c.before.before.in_order.ensures c.before.if1.true) c.told.ensures
+returns : tie.Need-returns-then-not-in_order
+returns c = refuses _ (not_in c.in_order.ensures (ap not c.if-not-in_order.true)) c.told.ensures
 
-arrived-whole-requires : tie.Need-arrived-whole-requires
-arrived-whole-requires c κs = is_in c.before.before.before.before.before.in_order.ensures c.before.before.before.before.if1.false
+arrived-whole-requires : tie.Need-arrived_whole-requires
+arrived-whole-requires c κs = is_in c.in_order.ensures (ap not c.if-not-in_order.false)
 
-returns-2 : tie.Need-returns-2
-returns-2 c = let r = c.before.before.before.before.before.before.before.before.before in calls _ (is_in r.before.before.before.before.before.before.in_order.ensures r.before.before.before.before.before.if1.false) r.arrived-whole.ensures c.told2.ensures
+returns-2 : tie.Need-returns
+returns-2 c = let r = c in calls _ (is_in r.in_order.ensures (ap not r.if-not-in_order.false)) r.arrived_whole.ensures c.told-2.ensures
 
-pub skarvoya-frame-spec : {M : Type 1} → statement M
-skarvoya-frame-spec =
+pub skarvoya_frame_spec : {M : Type 1} → statement M
+skarvoya_frame_spec =
     tie.close
     (tie.spec
     (λ c κs. search rules)

@@ -1,23 +1,25 @@
 -- By what the check says, then as the link event says.
+use mathlib.Core.Bool.{not}
+use mathlib.Core.Path.{ap}
 use Rattle.chip.specs.Rights.{not_in, is_in}
 use Rattle.skarvoya.specs.Called.{refuses, calls}
 use borrow.Author.Rules.{rules}
 use Rattle.skarvoya.proofs.events.skarvoya_link.Statement.{statement}
 use Rattle.skarvoya.proofs.events.skarvoya_link.Tie as tie
 
-returns : tie.Need-returns
-returns c = refuses _ (not_in c.before.before.in_order.ensures c.before.if1.true) c.told.ensures
+returns : tie.Need-returns-then-not-in_order
+returns c = refuses _ (not_in c.in_order.ensures (ap not c.if-not-in_order.true)) c.told.ensures
 
-linked-whole-requires : tie.Need-linked-whole-requires
-linked-whole-requires c κs = is_in c.before.before.in_order.ensures c.before.if1.false
+linked-whole-requires : tie.Need-linked_whole-requires
+linked-whole-requires c κs = is_in c.in_order.ensures (ap not c.if-not-in_order.false)
 
-returns-2 : tie.Need-returns-2
+returns-2 : tie.Need-returns
 returns-2 c =
-    let r = c.before.before.before in
-    calls _ (is_in r.before.before.before.in_order.ensures r.before.before.if1.false) r.linked-whole.ensures c.told2.ensures
+    let r = c in
+    calls _ (is_in r.in_order.ensures (ap not r.if-not-in_order.false)) r.linked_whole.ensures c.told-2.ensures
 
-pub skarvoya-link-spec : {M : Type 1} → statement M
-skarvoya-link-spec =
+pub skarvoya_link_spec : {M : Type 1} → statement M
+skarvoya_link_spec =
     tie.close
     (tie.spec
     (λ c κs. search rules)

@@ -10,39 +10,39 @@ use borrow.Author.Rules.{rules}
 use Rattle.skarvoya.proofs.record.answer.Statement.{statement}
 use Rattle.skarvoya.proofs.record.answer.Tie as tie
 
-returns : tie.Need-returns
-returns c = let s = c.before.before.before.before.before.before.before.before in cut_turns s.requires s.args.output.now (cut_short s.args.bytes.now (omega (arith, c.if1.true)))
+returns : tie.Need-returns-then-bytes-lt8
+returns c = let s = c in cut_turns s.requires s.args.output.now (cut_short s.args.bytes.now (omega (arith, c.if-bytes-lt8.true)))
 
 -- the record has its eight bytes
-module _ (x : tie.After-size-in) where
+module _ (x : tie.After-size_in-n) where
   abbrev start : tie.Start
-  start = x.before.before.before.before.before.before.before.before.before.before
+  start = x.before.before.before.before.before.before.before.before.before
 
   long : 8 ≤ length start.args.bytes.now
-  long = omega (arith, x.before.before.if1.left)
+  long = omega (arith, x.if-bytes-lt8.false)
 
   first : length (take 8 start.args.bytes.now) ≡ 8
   first = length-take-le 8 start.args.bytes.now long
 
-returns-2 : tie.Need-returns-2
+returns-2 : tie.Need-returns
 returns-2 c =
-    let a = c.before.before.before.before.before.before.before.before.before.before.before.before in
-    let x = a.before.before.before.before.before.before.before.before.before in
-    leaves_bench (start x).requires x.size_in.ensures _ (start x).args.output.now _ _ (omega (arith, c.before.before.before.before.before.before.before.before.before.sets.given, places_count (start x).requires x.size_in.ensures)) (turns_as _ (whole (start x).args.bytes.now (long x)) a.answer.ensures)
+    let a = c in
+    let x = c.before.before.before.before.before.before.before.before.before.before.before.before.before.before.before.before.before.before.before.before in
+    leaves_bench (start x).requires x.size_in-n.ensures _ (start x).args.output.now _ _ (omega (arith, c.sets-1.given, places_count (start x).requires x.size_in-n.ensures)) (turns_as _ (whole (start x).args.bytes.now (long x)) a.answer.ensures)
 
-pub answer-spec : {M : Type 1} → statement M
-answer-spec =
+pub answer_spec : {M : Type 1} → statement M
+answer_spec =
     tie.close
     (tie.spec
     returns
-    (λ c κs. c.before.before.before.before.before.before.before.before.before.requires.chip.ready.sound.kept.whole)
-    (λ c. let x = c.before in places_fit (start x).requires x.size_in.ensures)
-    (λ c. let x = c.before.before in places_count (start x).requires x.size_in.ensures)
+    (λ c κs. c.requires.chip.ready.sound.kept.whole)
+    (λ c. let x = c.before in places_fit (start x).requires x.size_in-n.ensures)
+    (λ c. let x = c.before.before in places_count (start x).requires x.size_in-n.ensures)
     (λ c. search rules)
-    (λ c. let x = c.before.before.before in bytes_fit (start x).requires x.size_in.ensures)
-    (λ c. let x = c.before.before.before.before in bytes_count (start x).requires x.size_in.ensures)
-    (λ c. sym (first c.before.before.before.before.before.before.before.before))
-    (λ c κs. let x = c.before.before.before.before.before.before.before.before in (lent_bench (start x).requires x.size_in.ensures, first x))
+    (λ c. let x = c.before.before.before in bytes_fit (start x).requires x.size_in-n.ensures)
+    (λ c. let x = c.before.before.before.before in bytes_count (start x).requires x.size_in-n.ensures)
+    (λ c. sym (first c.before.before.before.before.before.before.before))
+    (λ c κs. let x = c.before.before.before.before.before.before.before in (lent_bench (start x).requires x.size_in-n.ensures, first x))
     (λ c. search rules)
     (λ c. search rules)
     (λ c. search rules)

@@ -9,23 +9,23 @@ use Rattle.skarvoya.specs.Recorded.{cut_short, whole, later_none, short_none, fi
 use Rattle.skarvoya.proofs.record.part_started.Statement.{statement}
 use Rattle.skarvoya.proofs.record.part_started.Tie as tie
 
-returns : tie.Need-returns
-returns c = let s = c.before.before.args in later_none s.number (asked (take 8 s.bytes.now)) (λ e. omega (arith, e, c.if1.true))
+returns : tie.Need-returns-then-number-ne1
+returns c = let s = c.args in later_none s.number (asked (take 8 s.bytes.now)) (λ e. omega (arith, e, c.if-number-ne1.true))
 
-returns-2 : tie.Need-returns-2
-returns-2 c = let s = c.before.before.before.args in short_none s.number (cut_short s.bytes.now (omega (arith, c.if2.true)))
+returns-2 : tie.Need-returns-then-bytes-lt8
+returns-2 c = let s = c.args in short_none s.number (cut_short s.bytes.now (omega (arith, c.if-bytes-lt8.true)))
 
-returns-3 : tie.Need-returns-3
+returns-3 : tie.Need-returns
 returns-3 c =
-    let s = c.before.before.before.before.before.args in
-    first_asks s.number (asked (take 8 s.bytes.now)) (omega (arith, c.before.before.before.if1.false)) (c.part-asked.ensures ∙ ap asks_for (sym (whole s.bytes.now (omega (arith, c.before.before.if2.false)))))
+    let s = c.args in
+    first_asks s.number (asked (take 8 s.bytes.now)) (omega (arith, c.if-number-ne1.false)) (c.part_asked.ensures ∙ ap asks_for (sym (whole s.bytes.now (omega (arith, c.if-bytes-lt8.false)))))
 
-pub part-started-spec : {M : Type 1} → statement M
-part-started-spec =
+pub part_started_spec : {M : Type 1} → statement M
+part_started_spec =
     tie.close
     (tie.spec
     returns
     returns-2
-    (λ c. sym (length-take-le 8 c.before.before.before.before.args.bytes.now (omega (arith, c.before.if2.false))))
-    (λ c κs. length-take-le 8 c.before.before.before.before.args.bytes.now (omega (arith, c.before.if2.false)))
+    (λ c. sym (length-take-le 8 c.args.bytes.now (omega (arith, c.if-bytes-lt8.false))))
+    (λ c κs. length-take-le 8 c.args.bytes.now (omega (arith, c.if-bytes-lt8.false)))
     returns-3)

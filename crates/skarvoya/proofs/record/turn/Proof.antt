@@ -12,20 +12,20 @@ use Rattle.skarvoya.proofs.record.turn.Tie as tie
 
 started-requires : tie.Need-started-requires
 started-requires c κs =
-    let h = c.before.before.before.before.before.before.before.before.before.before.before.before.before.before.before.requires in
-    (record { words = h.chip.ready.sound.kept.whole; sets = record_long h.chip; queues = h.chip.ready.sound.queues.long }, part_room h (is_a_part c.before.before.before.before.before.part.given.0.0))
+    let h = c.requires in
+    (record { words = h.chip.ready.sound.kept.whole; sets = record_long h.chip; queues = h.chip.ready.sound.queues.long }, part_room h (is_a_part c.in-Known.part))
 
-returns : tie.Need-returns
+returns : tie.Need-returns-in-Known
 returns c =
-    let x = c.before.before.before.before.before.before.before.before.before.before.before.before.before.before.before.before in
-    let s = c.before.before.before.before.before.before.before.before.before.before.before.before.before.before.before.before.before.before.before.before.before.before.before.before in
-    starts_part s.requires (is_a_part c.before.before.before.before.before.before.before.before.before.before.before.before.before.before.part.given.0.0) s.args.number (asked (take 8 s.args.bytes.now)) (sym (ap packets_named c.before.before.before.before.before.before.before.before.before.before.before.before.before.before.part.given.1) ∙ x.part_started_lem.ensures) s.args.output.now c.before.before.before.before.before.before.before.before.started.ensures
+    let x = c in
+    let s = c in
+    starts_part s.requires (is_a_part c.in-Known.part) s.args.number (asked (take 8 s.args.bytes.now)) (sym (ap packets_named c.in-Known.is) ∙ x.part_started.ensures) s.args.output.now c.started.ensures
 
-returns-2 : tie.Need-returns-2
+returns-2 : tie.Need-returns-in-Unknown
 returns-2 c =
-    let x = c.before.before.before.before.before.before.before.before.before.before.before.before.before.before.before.before.before.before.before.before.before.before in
-    let s = c.before.before.before.before.before.before.before.before.before.before.before.before.before.before.before.before.before.before.before.before.before.before.before.before.before.before.before.before.before.before in
-    starts_none s.args.number (asked (take 8 s.args.bytes.now)) _ (sym (ap packets_named c.before.before.before.before.before.before.before.before.before.before.before.before.before.before.before.before.before.before.before.before.enum_told.given.1) ∙ x.part_started_lem.ensures) c.before.before.before.before.before.before.before.before.before.before.before.before.answer.ensures
+    let x = c in
+    let s = c in
+    starts_none s.args.number (asked (take 8 s.args.bytes.now)) _ (sym (ap packets_named c.in-Unknown.is) ∙ x.part_started.ensures) c.answer.ensures
 
 pub turn_spec : {M : Type 1} → statement M
 turn_spec =
@@ -35,7 +35,7 @@ turn_spec =
     (λ c. search rules)
     started-requires
     (λ c. search rules)
-    (λ c κs. c.before.before.before.before.before.before.before.before.before.before.before.before.before.before.before.before.before.requires)
+    (λ c κs. c.requires)
     (λ c. search rules)
     (λ c. search rules)
     (λ c. search rules)

@@ -1,0 +1,37 @@
+// Accesses of the driver to the sixteen I/O addresses.
+ghost use Rattle.std.specs.Prelude.{[]};
+ghost use Rattle.rules.specs.Registers as registers;
+ghost use Rattle.rules.specs.Step as rules;
+ghost use Rattle.lent.specs.Lent.{wide};
+ghost use Rattle.skarvoya.specs.Calls.{Calls};
+
+// Reads a word or a byte.
+#[unsafe(no_mangle)]
+pub extern "C" fn skarvoya_read(
+    words: &mut [u16],
+    sets: &[u32],
+    queues: &[u8],
+    memory: &[u8],
+    word: bool,
+    offset: u8,
+) -> u32
+    ensures { Calls (rules.driver (registers.read (wide word) offset)) words.old sets.now queues.now memory.now result words.new sets.now queues.now memory.now [] }
+{
+    skarvoya::skarvoya_read(words, sets, queues, memory, word, offset)
+}
+
+// Writes a word, or the value's low byte.
+#[unsafe(no_mangle)]
+pub extern "C" fn skarvoya_write(
+    words: &mut [u16],
+    sets: &mut [u32],
+    queues: &mut [u8],
+    memory: &mut [u8],
+    word: bool,
+    offset: u8,
+    value: u16,
+) -> u32
+    ensures { Calls (rules.driver (registers.write (wide word) offset value)) words.old sets.old queues.old memory.old result words.new sets.new queues.new memory.new [] }
+{
+    skarvoya::skarvoya_write(words, sets, queues, memory, word, offset, value)
+}

@@ -1,0 +1,29 @@
+// A record of the bench.
+ghost use Rattle.std.specs.Prelude.{◌≡◌, ◌≤◌, length, take};
+ghost use Rattle.rules.specs.Bench as rules;
+ghost use Rattle.lists.specs.Facts.{Decides};
+ghost use Rattle.state.specs.Meaning.{packets_named};
+ghost use Rattle.turns.specs.Served.{asked};
+ghost use Rattle.skarvoya.specs.Records.{BenchHeld, BenchInOrder, Roomy, bench_of, part_started, TurnsBench, Serves, AnswersRecord};
+
+// A record of the bench: it is answered, and its line is printed. `count` is how many records there were before.
+#[unsafe(no_mangle)]
+pub extern "C" fn skarvoya_record(
+    words: &mut [u16],
+    sets: &mut [u32],
+    queues: &mut [u8],
+    memory: &mut [u8],
+    wire: &mut [u8],
+    gathered: &mut usize,
+    output: &mut [u8],
+    count: &mut u64,
+    bytes: &[u8],
+    line: &mut [u8],
+    printed: &mut usize,
+) -> u32
+    ensures { AnswersRecord bytes.now words.old sets.old queues.old memory.old wire.old gathered.old output.old count.old line.old result words.new sets.new queues.new memory.new wire.new gathered.new output.new count.new line.new printed.new }
+{
+    skarvoya::skarvoya_record(
+        words, sets, queues, memory, wire, gathered, output, count, bytes, line, printed,
+    )
+}
