@@ -1,10 +1,5 @@
 // A record of the bench.
-ghost use Rattle.std.specs.Prelude.{◌≡◌, ◌≤◌, length, take};
-ghost use Rattle.rules.specs.Bench as rules;
-ghost use Rattle.lists.specs.Facts.{Decides};
-ghost use Rattle.state.specs.Meaning.{packets_named};
-ghost use Rattle.turns.specs.Served.{asked};
-ghost use Rattle.skarvoya.specs.Records.{BenchHeld, BenchInOrder, Roomy, bench_of, part_started, TurnsBench, Serves, AnswersRecord};
+ghost use Rattle.skarvoya.specs.Records.{AnswersRecord};
 
 // A record of the bench: it is answered, and its line is printed. `count` is how many records there were before.
 #[unsafe(no_mangle)]
