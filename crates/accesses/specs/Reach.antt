@@ -1,6 +1,6 @@
 -- From the register at a place to the rules' access.
 use Rattle.std.specs.Prelude.{◌≡◌, refl, Bool, true, false, cond, List, ℕ, ◌+◌, ◌*◌, ◌/◌, ◌%◌, ◌<◌, ltb}
-use Rattle.std.proofs.Common.{ap, sym, subst, ◌∙◌, arith, ltb-false}
+use Rattle.std.proofs.Common.{sym, subst, ◌∙◌, arith, ltb-false}
 use Rattle.rules.specs.Bits.{bit, low_byte}
 use Rattle.rules.specs.Chip.{Layout, Chip}
 use Rattle.rules.specs.Answers.{Effect, refuse}

@@ -1,4 +1,6 @@
 // Accesses to the sixteen I/O addresses, on a state that is in order: where the register of an access stands, and one table for reads and one for writes, over all banks.
+#![tactic(auto)]
+
 mod reads; // reads.rt: reads
 mod writes; // writes.rt: writes
 

@@ -1,5 +1,5 @@
 -- What answering the records of an input promises: the rules' bench after them, and the rules' lines in the program's form.
-use Rattle.std.specs.Prelude.{◌≡◌, Bool, true, false, List, [], ◌++◌, ℕ, zero, suc, ◌+◌, ◌*◌, ◌/◌, ◌≤◌, ◌<◌, take, drop}
+use Rattle.std.specs.Prelude.{◌≡◌, Bool, true, false, List, [], ◌++◌, ℕ, zero, suc, ◌+◌, ◌*◌, take, drop}
 use Rattle.rules.specs.Chip.{Chip}
 use Rattle.rules.specs.Interrupts.{line_up}
 use Rattle.rules.specs.Bench.{Event, Bench, Form, plain, answer, event_of}

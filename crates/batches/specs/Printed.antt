@@ -6,7 +6,7 @@ use mathlib.Core.List.{List, [], ◌∷◌, ◌++◌, append_assoc, append-nil}
 use Prim.Native.Nat.{ℕ, zero, suc, ◌+◌, ◌*◌, ◌≤◌, ◌<◌}
 use Rattle.std.proofs.Math.ListN.{length, length-drop}
 use Rattle.rules.specs.Answers.{done}
-use Rattle.rules.specs.Bench.{Event, unknown, Bench, Answered, Form, plain, answer, asks_for, started_as, answer_to, event_of, printed, bench, started}
+use Rattle.rules.specs.Bench.{unknown, Bench, Answered, Form, plain, answer, asks_for, started_as, answer_to, event_of, printed, bench, started}
 use Rattle.rules.specs.Watch.{watched, watch}
 use Rattle.turns.specs.Served.{answered_later, answered_none, answered_part}
 use Rattle.batches.specs.Batch.{record_at, bench_after, lines_for}

@@ -1,7 +1,7 @@
 -- Laws of the rules' bits, over any number and any bit. (With a numeral for k, `omega` reads `bit k x` by itself once it is unfolded, but for bit 0: `bit_zero`.)
 use Rattle.std.specs.Prelude.{◌≡◌, refl, Bool, false, ◌&&◌, ◌||◌}
 use Rattle.std.proofs.Math.Path.{ap, sym}
-use Rattle.std.proofs.Common.{◌∙◌, subst, div-one, mod-lt, pow-suc, mul_assoc, one-add, add-one, eq-eqb, pow_pos, pow-add, shr_lt}
+use Rattle.std.proofs.Common.{◌∙◌, subst, div-one, mod-lt, pow-suc, mul_assoc, one-add, eq-eqb, pow_pos, pow-add, shr_lt}
 use Rattle.std.proofs.Math.Bool.{true}
 use Prim.Native.Nat.{ℕ, zero, suc, ◌+◌, ◌-◌, ◌*◌, ◌/◌, ◌%◌, ◌^◌, ◌≤◌, ◌<◌}
 use Rattle.std.proofs.Math.Nat.{mul_comm, add-mul}

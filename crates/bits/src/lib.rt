@@ -1,6 +1,8 @@
 // The bits and bytes of registers: each contract is an equation with a definition of `rules`.
 // Callers give a constant k, and the compiler inlines these across crates: then a bit is one `test` (or a shift and an `and`),
 // a bit set or cleared one `or` or `and` with a constant, a byte one shift, a word one shift and one `or`. So no masks are written here.
+#![tactic(auto)]
+
 ghost use Rattle.std.specs.Prelude.{◌≡◌, ◌&&◌, ◌||◌, ◌<◌};
 ghost use Rattle.rules.specs.Bits.{bit, set_bit, clear_bit, flag, low_byte, high_byte, word_of};
 

@@ -1,5 +1,5 @@
 -- What a send decides depends only on bytes 2 to 9 of the TX head and its control byte: a send on two chips that are equal but for the bytes of memory, where these agree.
-use Rattle.std.specs.Prelude.{◌≡◌, refl, Bool, true, cond, ℕ, ◌+◌, ◌-◌, ◌*◌, ◌≤◌, ltb, get_or, drop, replicate}
+use Rattle.std.specs.Prelude.{◌≡◌, refl, Bool, true, cond, ℕ, ◌-◌, ◌*◌, ◌≤◌, ltb, get_or, drop, replicate}
 use Rattle.std.proofs.Math.Path.{ap, sym, subst}
 use Rattle.std.proofs.Common.{◌∙◌, arith, length-append, length-drop}
 use Rattle.std.proofs.Math.Bool.{false, not}

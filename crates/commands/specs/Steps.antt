@@ -3,11 +3,11 @@ use Rattle.std.specs.Prelude.{◌≡◌, Bool, true, false, List, [], ◌∷◌,
 use Rattle.std.proofs.Math.Path.{refl}
 use Rattle.std.proofs.Common.{ap, sym, ◌∙◌, ⊎_elim, arith, eq-eqb, ne_eqb, le-leb}
 use Rattle.std.proofs.lemmas.Bool.{lt-leb}
-use Rattle.rules.specs.Lists.{member, free_below, first_empty}
+use Rattle.rules.specs.Lists.{member}
 use Rattle.rules.specs.Chip.{Chip, free, allocated}
-use Rattle.rules.specs.Fields.{set_result, set_rx, set_tx, in_registers, in_pool}
+use Rattle.rules.specs.Fields.{set_rx, set_tx, in_pool}
 use Rattle.rules.specs.Answers.{Effect, did, refuse}
-use Rattle.rules.specs.WellFormed.{GoodPages, FormedAt}
+use Rattle.rules.specs.WellFormed.{FormedAt}
 use Rattle.rules.specs.Mmu.{allocate, remove_rx, remove_and_release, release, enqueue, unknown, decode, perform, grant, pend, give_back, queued, if_idle, if_head}
 use Rattle.lists.specs.Facts.{or_right, no_head, head_and_rest, member_at, member_cases}
 use Rattle.wellformed.specs.Count.{distinct_few}

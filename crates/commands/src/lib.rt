@@ -1,4 +1,6 @@
 // A write to the MMU command register, on a state that stands for a well-formed chip.
+#![tactic(auto)]
+
 mod decode; // decode.rt: the command that a value asks for
 mod register; // register.rt: the commands on the packet number register
 mod rx; // rx.rt: the commands on the RX head

@@ -1,6 +1,5 @@
 -- The accesses that the driver makes, by the offsets of document 01's registers; and accesses one after another.
 use Rattle.std.specs.Prelude.{List, [], ◌∷◌, ℕ}
-use Rattle.rules.specs.Bits.{word_of}
 use Rattle.rules.specs.Chip.{Chip}
 use Rattle.rules.specs.Answers.{Reply}
 use Rattle.rules.specs.Registers.{byte, word, Access, read, write, access}

@@ -1,5 +1,5 @@
 -- Document 02, W11: the driver's calls. Each is told by the accesses that it makes, in order; what it decides, it decides by the values that these answer.
-use Rattle.std.specs.Prelude.{Bool, true, false, cond, not, ◌&&◌, List, [], ◌∷◌, ◌++◌, ℕ, zero, suc, ◌+◌, ◌-◌, eqb, leb, ltb, length}
+use Rattle.std.specs.Prelude.{Bool, true, false, cond, not, ◌&&◌, List, [], ◌∷◌, ◌++◌, ℕ, zero, suc, ◌-◌, eqb, leb, ltb, length}
 use Rattle.rules.specs.Bits.{bit, low_byte, high_byte, word_of}
 use Rattle.rules.specs.Chip.{Chip}
 use Rattle.rules.specs.Answers.{Reply, done, refusal, over}

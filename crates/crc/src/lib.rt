@@ -1,5 +1,7 @@
 // The 32-bit remainder of IEEE 802.3 over a part of a slice, in wire bit order and preset to ones, held with its bits in the other order
 // (`mirror 32`), as the standard publishes it but for the complement.
+#![tactic(auto)]
+
 mod tables; // tables.rt: what 32 shifts make of each nibble
 
 ghost use Rattle.std.specs.Prelude.{◌≡◌, ◌*◌, ◌+◌, ◌^◌, ◌<◌, ◌≤◌, length, drop};

@@ -1,4 +1,6 @@
 // The pointer and the data accesses, over the lent state.
+#![tactic(auto)]
+
 mod checks; // checks.rt: which packet the pointer means, and where the first byte lies or why it is refused
 mod pointer; // pointer.rt: the pointer after an access
 mod reads; // reads.rt: reads behind the gate

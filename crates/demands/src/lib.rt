@@ -1,1 +1,3 @@
+#![tactic(auto)]
+
 // No code: statements in specs/.

@@ -1,4 +1,6 @@
 // Is a record in order: does it name a part, is it laid out as it must be, and of a chip that is well formed? What document 01's refusal 16 asks.
+#![tactic(auto)]
+
 mod fifos; // fifos.rt: the three queues
 mod words; // words.rt: the registers
 

@@ -1,4 +1,6 @@
 // What becomes of a frame that arrives, by its bytes and the registers: the verdict; and of one that is stored its length, pages and status.
+#![tactic(auto)]
+
 mod address; // address.rt: the destination address, and whether it is accepted
 mod check; // check.rt: the frame check sequence
 mod length; // length.rt: how much is stored of a frame, and its status

@@ -3,7 +3,7 @@ use Rattle.std.specs.Prelude.{◌≡◌, Bool, true, false, ℕ}
 use Rattle.std.proofs.Math.Path.{refl}
 use Rattle.std.proofs.Common.{ap, sym, ◌∙◌, true≢false}
 use Rattle.rules.specs.Bits.{bit, low_byte}
-use Rattle.rules.specs.Chip.{Layout, Chip, size}
+use Rattle.rules.specs.Chip.{Chip, size}
 use Rattle.rules.specs.Answers.{Effect, Turn}
 use Rattle.rules.specs.Tests.{fit}
 use Rattle.rules.specs.Mmu.{decode}

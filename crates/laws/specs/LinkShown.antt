@@ -1,5 +1,5 @@
 -- What a send shows of the link: EPHSR afterwards, and the status word in its packet, which is EPHSR as it is shown afterwards.
-use Rattle.std.specs.Prelude.{◌≡◌, Bool, false, not, List, [], ◌∷◌, ℕ, ◌*◌, ◌/◌, ◌%◌, ◌^◌, ◌≤◌, eqb, length, get_or}
+use Rattle.std.specs.Prelude.{◌≡◌, Bool, not, List, [], ◌∷◌, ℕ, ◌*◌, ◌/◌, ◌%◌, ◌^◌, ◌≤◌, eqb, length, get_or}
 use Rattle.std.proofs.Common.{ap, sym, subst, ◌∙◌, true≢false, arith}
 use Rattle.std.proofs.Math.Bool.{true}
 use Rattle.rules.specs.Bits.{bit, low_byte, high_byte}

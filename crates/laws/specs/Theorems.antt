@@ -16,7 +16,7 @@ use Rattle.wellformed.specs.Pool.{good_lists}
 use Rattle.wellformed.specs.Keeps.{keeps, powered_fits}
 use Rattle.laws.specs.Accounted.{IsFree, InOne, accounted_after}
 use Rattle.laws.specs.Ledger.{Ledger, Resets, ledger_from}
-use Rattle.laws.specs.Reading.{reads, ReadsFree, Balances, BalancesAlways}
+use Rattle.laws.specs.Reading.{ReadsFree, Balances, BalancesAlways}
 use Rattle.laws.specs.Balance.{run_fits, balances, balances_since, run_joined, ledger_joined}
 
 -- well formed, with 256 bytes for each of its n pages (of strips 2,048 for each of its n packets): what refusal 16 asks of a chip of n packets

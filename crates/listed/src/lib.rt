@@ -1,5 +1,7 @@
 // The record of page lists, as the chip's code had it before page sets: declarations alone. `specs/` has what it stood for, what a step on it promised,
 // and that the lent state describes the same chip. It has places for 24 packets, and says how many its part has (document 02, W9).
+#![tactic(auto)]
+
 use state::Answer;
 
 #[derive(Drop)]

@@ -1,5 +1,5 @@
 -- Numbers that go up by one: the pages of a strip.
-use Rattle.std.specs.Prelude.{◌≡◌, refl, true, List, [], ◌∷◌, ℕ, zero, suc, ◌+◌, ◌≤◌, ◌<◌, length, get_or, take}
+use Rattle.std.specs.Prelude.{◌≡◌, refl, true, List, ◌∷◌, ℕ, zero, suc, ◌+◌, ◌≤◌, ◌<◌, length, get_or, take}
 use Rattle.std.proofs.Common.{ap, ⊎_elim, arith}
 use Rattle.rules.specs.Lists.{member, up_from}
 use Rattle.rules.specs.WellFormed.{Above, Ascending}

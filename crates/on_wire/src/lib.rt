@@ -1,4 +1,6 @@
 // A send's data as it goes out: padded, and its frame check sequence behind it (document 02, W4). Both chips end what they put out by this.
+#![tactic(auto)]
+
 ghost use Rattle.std.specs.Prelude.{◌≡◌, cond, [], ◌∷◌, ◌+◌, ◌-◌, ◌≤◌, length, take, replicate};
 ghost use Rattle.std.proofs.lemmas.List.Edits.{sets};
 ghost use Rattle.rules.specs.Crc.{four_bytes};

@@ -1,4 +1,6 @@
 // What follows from how a send ended (document 01, "A send finishes"): the registers and TX after it, and what becomes of its packet.
+#![tactic(auto)]
+
 mod event; // event.rt: how a send ended
 mod nibbles; // nibbles.rt: the nibbles of ECR
 mod status; // status.rt: EPHSR and TCR after it

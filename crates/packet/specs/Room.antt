@@ -1,5 +1,5 @@
 -- What the functions over a packet's bytes ask of its page set and of memory, and the bytes of a stored frame.
-use Rattle.std.specs.Prelude.{◌≡◌, List, ◌∷◌, ◌++◌, ℕ, ◌+◌, ◌-◌, ◌*◌, ◌/◌, ◌%◌, ◌≤◌, length, take}
+use Rattle.std.specs.Prelude.{List, ◌∷◌, ◌++◌, ℕ, ◌+◌, ◌-◌, ◌*◌, ◌/◌, ◌%◌, ◌≤◌, length, take}
 use Rattle.rules.specs.Bits.{low_byte, high_byte}
 use Rattle.rules.specs.Receive.{trailer}
 use Rattle.lists.specs.Bytes.{Below}

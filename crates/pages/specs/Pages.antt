@@ -9,7 +9,7 @@ use Rattle.wellformed.specs.Parts.{part_few}
 use Rattle.wellformed.specs.Settle.{request_few}
 use Rattle.state.specs.View.{word, registers_in, figures, with_mir, lists_of, pool_of, view_of, Kept}
 use Rattle.state.specs.Pages.{numbers_length}
-use Rattle.state.specs.Promise.{QueuesIn, PagesIn, SetsIn, SoundOf, ReadyOf, Sets, sets_chip}
+use Rattle.state.specs.Promise.{QueuesIn, PagesIn, SoundOf, ReadyOf, Sets, sets_chip}
 
 -- packet k, which has none, may get m pages: so many are free
 pub record Grantable (k m : ℕ) (ls : List (List ℕ)) : Type 0 where

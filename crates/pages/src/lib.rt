@@ -1,4 +1,6 @@
 // Which pages are free, and who gets them. Page sets and the free count that MIR keeps change here alone (a reset of all is `pool`'s): where pages are granted, and where they are given back.
+#![tactic(auto)]
+
 mod pages; // pages.rt: pages granted and made free, and how many are free
 mod requests; // requests.rt: allocations, and pages given back
 

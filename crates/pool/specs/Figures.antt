@@ -3,7 +3,6 @@ use Rattle.std.specs.Prelude.{◌≡◌, refl, List, [], ℕ, length, replicate}
 use Rattle.std.proofs.Common.{ap, ap₂, sym, subst, ◌∙◌, arith}
 use Rattle.std.proofs.lemmas.List.{length-replicate}
 use Rattle.rules.specs.Bits.{word_of}
-use Rattle.rules.specs.Lists.{total}
 use Rattle.rules.specs.Parts.{IsPart}
 use Rattle.rules.specs.Chip.{Layout, free_for}
 use Rattle.wellformed.specs.Layouts.{free_total, none_lists, none_total}

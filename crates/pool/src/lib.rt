@@ -1,5 +1,7 @@
 // Who is in which queue. Queues and the figures that the words keep of them change here alone (a soft reset zeroes the words before):
 // each figure in the one function that joins a queue or leaves it, and where a queue or all, with the pages (`pages`), is emptied.
+#![tactic(auto)]
+
 mod figures; // figures.rt: what the words keep of RX and of TX
 
 ghost use Rattle.std.specs.Prelude.{◌≡◌, ◌||◌, [], ◌∷◌, ◌++◌, ◌<◌, length, get_or, drop};

@@ -1,5 +1,7 @@
 // Queues of packet numbers in a lent part of bytes, the head first; bytes behind the last entry are 0. The count is kept beside them.
 // Each contract says what becomes of the bytes; `specs/Parts` what that is of the entries.
+#![tactic(auto)]
+
 pub mod marks; // marks.rt: the packets of a queue as bits
 
 ghost use Rattle.std.specs.Prelude.{◌≡◌, ◌∷◌, ◌++◌, ◌-◌, ◌≤◌, ◌<◌, drop, get_or, length, replicate, set, take};

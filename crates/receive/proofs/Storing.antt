@@ -1,12 +1,11 @@
 -- A frame that is to be stored in page sets: the number may get its pages, and the frame fits in them.
-use mathlib.Core.Path.{◌≡◌, ap, sym, subst}
+use mathlib.Core.Path.{◌≡◌, sym, subst}
 use mathlib.Core.List.{List, map}
-use Prim.Native.Nat.{ℕ, ◌*◌, ◌≤◌, ◌<◌}
+use Prim.Native.Nat.{ℕ, ◌*◌}
 use native.Mathlib.Omega.{arith}
 use lib.ListN.{length, take}
 use lib.Seq.{length-take-le}
 use Rattle.rules.specs.Chip.{paged, free_for}
-use Rattle.rules.specs.Lists.{member, free_below}
 use Rattle.rules.specs.Packet.{put_bytes}
 use Rattle.rules.specs.WellFormed.{GoodPages}
 use Rattle.rules.specs.Receive.{Frame, data_length, count_of, pages_for, needed, frame_status, image}

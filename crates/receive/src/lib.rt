@@ -1,4 +1,6 @@
 // A frame arrives. What becomes of it is judged in `judging`.
+#![tactic(auto)]
+
 mod stow; // stow.rt: a frame that is stored
 
 ghost use Rattle.std.specs.Prelude.{◌≡◌, true, false, ◌*◌, length};

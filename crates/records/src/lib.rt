@@ -1,4 +1,6 @@
 // The bench program's records: what a record asks for, and the wire bytes gathered so far.
+#![tactic(auto)]
+
 mod event; // event.rt: a record's event
 mod gather; // gather.rt: wire bytes gathered
 

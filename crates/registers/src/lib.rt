@@ -1,4 +1,6 @@
 // Document 01's section "Registers", but for data accesses, MMU commands, interrupts and RCR: what each register reads, and what a write to it does.
+#![tactic(auto)]
+
 mod link; // link.rt: the link set
 mod reads; // reads.rt: reads that are not a word as it stands
 mod words; // words.rt: what a write leaves of a word

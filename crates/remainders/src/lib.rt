@@ -1,1 +1,3 @@
+#![tactic(auto)]
+
 // No code: facts of the remainder of `rules`, in specs/.

@@ -11,7 +11,7 @@ use lib.Seq.{get_or-set_same, get_or-set_other}
 use Rattle.rules.specs.Bits.{bit, low_byte, high_byte, word_of, word_at}
 use Rattle.rules.specs.Lists.{member, first_empty, some?, owned, unless, free_below}
 use Rattle.rules.specs.Parts.{lan91c94, lan91c96, part_named}
-use Rattle.rules.specs.Chip.{Registers, Layout, paged, strips, Chip, size, pages_at, free, powered}
+use Rattle.rules.specs.Chip.{Registers, Layout, paged, Chip, size, pages_at, free, powered}
 use Rattle.rules.specs.Fields.{set_rx, set_completion, in_pool}
 use Rattle.rules.specs.Answers.{Effect, refuse, refusal}
 use Rattle.rules.specs.Mmu.{perform, allocate, reset, remove_and_release, reset_tx, lowest_number, grant, due, settle, freed, give_back}

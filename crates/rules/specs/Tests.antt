@@ -1,7 +1,7 @@
 -- The clauses of `WellFormed` once more, as tests that compute: what refusal 16 asks. A reader may skip this file, for `wellformed/specs/Fit` proves
 -- each test true exactly where its clause holds.
 use Rattle.std.specs.Prelude.{Bool, true, not, ◌&&◌, ◌||◌, List, [], ◌∷◌, ℕ, suc, ◌*◌, eqb, leb, ltb, length, get_or}
-use Rattle.rules.specs.Lists.{member, some?, owned, total, up_from}
+use Rattle.rules.specs.Lists.{member, some?, owned, total}
 use Rattle.rules.specs.Chip.{Numbers, Layout, paged, strips, Pool, Chip, page_numbers, free_for}
 
 unfoldable pub above : ℕ → List ℕ → Bool

@@ -1,4 +1,6 @@
 // Who has which page: a packet's pages as one number, bit p for page p.
+#![tactic(auto)]
+
 mod map; // map.rt: for each packet number its pages
 mod set; // set.rt: one packet's pages
 

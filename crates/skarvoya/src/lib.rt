@@ -1,5 +1,7 @@
 // The chip, and one record of the bench, as functions that C links: include/skarvoya.h (document 02, W6). State, memory and buffers are lent, of whatever length and
 // contents; each function looks at what it was lent, refuses what is not in order, and calls the step that other crates promise.
+#![tactic(auto)]
+
 mod driver; // driver.rt: accesses of the driver to the sixteen I/O addresses
 mod events; // events.rt: arriving frames, finished sends and link events
 mod entries; // entries.rt: power-up, and the interrupt line

@@ -12,7 +12,7 @@ use Rattle.state.specs.declared.Pages.{Pages}
 use Rattle.state.specs.declared.Queues.{Queues}
 use Rattle.state.specs.declared.Returned.{Returned}
 use Rattle.state.specs.Meaning.{reply_of}
-use Rattle.state.specs.View.{word, view_of, view}
+use Rattle.state.specs.View.{word, view_of}
 use Rattle.state.specs.Promise.{ReadyOf}
 
 -- a state that stands for a well-formed chip, beside its bytes

@@ -8,7 +8,7 @@ use Rattle.rules.specs.Chip.{Layout}
 use Rattle.rules.specs.Link.{shown}
 use Rattle.rules.specs.Registers.{Register, Lanes, low, high, both, TCR, EPHSR, RCR, RESERVED, STATION, CONTROL, COMMAND, PACKET, POINTER, TABLE, BANK, UNUSED, ABSENT, register_at, taken, read_register}
 use Rattle.state.specs.declared.Answer.TheVariants.{Done, NotModelled}
-use Rattle.state.specs.View.{word, registers_in, view_of, Kept}
+use Rattle.state.specs.View.{word, view_of, Kept}
 use Rattle.state.specs.Promise.{Does}
 
 -- the register at place bank * 8 + offset / 2

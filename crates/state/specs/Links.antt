@@ -1,10 +1,10 @@
 -- The word of the link: its two bits, and what a link event comes to over the words.
-use Rattle.std.specs.Prelude.{◌≡◌, refl, Bool, true, false, ◌||◌, List, ℕ, zero, suc, ◌+◌, ◌*◌, ◌/◌, ◌%◌, ◌^◌, ◌≤◌, ◌<◌, eqb, ltb, set}
+use Rattle.std.specs.Prelude.{◌≡◌, refl, false, ◌||◌, List, ℕ, zero, suc, ◌+◌, ◌*◌, ◌/◌, ◌%◌, ◌^◌, ◌≤◌, ◌<◌, eqb, ltb, set}
 use Rattle.std.proofs.Common.{ap, ◌∙◌, arith, lt-ltb, le-ltb}
 use Rattle.std.proofs.Math.Path.{sym}
 use Rattle.std.proofs.Math.Bool.{xor}
 use Rattle.rules.specs.Bits.{bit, flag}
-use Rattle.rules.specs.Chip.{Link, Registers}
+use Rattle.rules.specs.Chip.{Link}
 use Rattle.rules.specs.Fields.{set_link}
 use Rattle.rules.specs.Link.{relink, plug}
 use Rattle.bits.specs.Laws.{bit_zero}

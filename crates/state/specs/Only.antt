@@ -23,9 +23,9 @@ use Rattle.state.specs.Meaning.{packets_named, reply_of}
 use Rattle.state.specs.View.{word, registers_in, figures, queue_in, strips_from, lists_of, pool_of, view_of, FixedIn, BlankIn, Kept}
 use Rattle.state.specs.Written.{Written, written_out}
 use Rattle.state.specs.Links.{two_bits}
-use Rattle.state.specs.Promise.{QueuesIn, Small, SoundOf, ReadyOf, MakesOf, Sets, Does}
+use Rattle.state.specs.Promise.{QueuesIn, Small, SoundOf, MakesOf, Sets, Does}
 use Rattle.state.specs.Counted.{full_count}
-use Rattle.state.specs.Entry.{RightOf, size_in, of_part, record_view, HoldsOf, WholeOf, LeavesOf, AnswersOf, StartedOf, LinesOf}
+use Rattle.state.specs.Entry.{RightOf, size_in, record_view, HoldsOf, WholeOf, LeavesOf, AnswersOf, StartedOf, LinesOf}
 use Rattle.state.specs.Places.{record_cut}
 use Rattle.state.specs.Decided.{holds?, decided}
 

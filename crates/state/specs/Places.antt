@@ -1,20 +1,19 @@
 -- A record has places for 24 packets, and a step is lent those of the part: from the one to the other and back.
-use Rattle.std.specs.Prelude.{◌≡◌, refl, Bool, false, ◌||◌, List, [], ◌∷◌, ◌++◌, map, ℕ, zero, suc, ◌+◌, ◌*◌, ◌-◌, ◌%◌, ◌≤◌, ◌<◌, length, take, drop, get_or, replicate}
-use Rattle.std.proofs.Common.{ap, ap₂, sym, subst, ◌∙◌, arith, length-append, length-drop, take-append-drop, take_at, drop_at, length-take-le}
+use Rattle.std.specs.Prelude.{◌≡◌, refl, Bool, false, ◌||◌, List, [], ◌∷◌, ◌++◌, map, ℕ, zero, suc, ◌*◌, ◌-◌, length, take, drop, get_or, replicate}
+use Rattle.std.proofs.Common.{ap, ap₂, sym, subst, ◌∙◌, arith, length-append, take-append-drop, take_at, drop_at}
 use Rattle.std.proofs.lemmas.List.{length-replicate}
 use Rattle.rules.specs.Bits.{word_of}
 use Rattle.rules.specs.Parts.{IsPart}
 use Rattle.rules.specs.Lists.{member, owned, unless, free_below}
-use Rattle.rules.specs.Chip.{Layout, Chip, page_numbers, powered}
+use Rattle.rules.specs.Chip.{Layout, page_numbers}
 use Rattle.rules.specs.Answers.{Turn}
-use Rattle.wellformed.specs.Parts.{part_few, part_some}
+use Rattle.wellformed.specs.Parts.{part_few}
 use Rattle.sets.specs.Views.{pages_of}
 use Rattle.sets.specs.Pages.{pages_none}
 use Rattle.state.specs.declared.Answer.{Answer}
-use Rattle.state.specs.declared.Answer.TheVariants.{Done}
-use Rattle.state.specs.View.{word, view_of}
+use Rattle.state.specs.View.{view_of}
 use Rattle.state.specs.Promise.{SoundOf, ReadyOf}
-use Rattle.state.specs.Entry.{InOrderOf, RightOf, size_in, of_part, record_view, HoldsOf, WholeOf, LeavesOf, StartedOf, zeros}
+use Rattle.state.specs.Entry.{InOrderOf, RightOf, size_in, of_part, record_view, HoldsOf, WholeOf, LeavesOf}
 
 -- MIR's low byte is the number of packets.
 pub size_told : {l : Layout} {w s q : List ℕ} → SoundOf l w s q → size_in w ≡ length s

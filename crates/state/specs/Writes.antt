@@ -1,9 +1,9 @@
 -- What a write of each register comes to over the words, and a read of ECR.
-use Rattle.std.specs.Prelude.{◌≡◌, refl, Bool, true, false, cond, List, ℕ, ◌+◌, ◌*◌, ◌/◌, ◌%◌, ◌<◌, set}
+use Rattle.std.specs.Prelude.{◌≡◌, refl, Bool, true, false, cond, List, ℕ, ◌+◌, ◌*◌, ◌/◌, ◌%◌, set}
 use Rattle.std.proofs.Common.{ap, sym, ◌∙◌, arith}
 use Rattle.rules.specs.Bits.{bit, clear_bit, low_byte}
 use Rattle.rules.specs.Chip.{Link, Registers, Layout, Chip}
-use Rattle.rules.specs.Fields.{set_tcr, set_ephsr, set_rcr, set_ecr, set_control, set_pointer, set_link, in_registers}
+use Rattle.rules.specs.Fields.{set_tcr, set_ephsr, set_ecr, set_control, set_pointer, set_link, in_registers}
 use Rattle.rules.specs.Answers.{Effect, did, done_with, refuse}
 use Rattle.rules.specs.Link.{forget_change}
 use Rattle.rules.specs.Registers.{Register, Lanes, TCR, EPHSR, RCR, ECR, MIR, RESERVED, STATION, CONTROL, PACKET, HEADS, POINTER, TABLE, BANK, UNUSED, ABSENT, low, high, both, taken, forgotten, clear_ecr, write_tcr, new_rcr, write_rcr, low_only, read_register, write_register}

@@ -1,4 +1,6 @@
 // The lent state: 32 words of registers, a page set for each packet of the part, and 72 bytes of queues. What a step answers, and which bytes of a word an access reaches.
+#![tactic(auto)]
+
 mod bytes; // bytes.rt: the bytes of a word that an access reads or writes
 pub mod flags; // flags.rt: the bits of the words, by the data sheet's names
 mod link; // link.rt: EPHSR as it is shown

@@ -1,6 +1,8 @@
 // The chip of strips (document 02, W3): every access, arriving frame, finished send and link event, as `chip` has them. Each packet lies in its own strip of 2,048 bytes, and of pages the record
 // has only how many each packet has. Each step has two doors: a public entry for any record and memory, by value, which refuses with 16 what is not in order; and the same step below it, which is
 // lent the counts of its part's packets alone.
+#![tactic(auto)]
+
 mod driver; // driver.rt: accesses of the driver to the sixteen I/O addresses
 mod frames; // frames.rt: arriving frames
 mod sends; // sends.rt: finished sends

@@ -1,19 +1,19 @@
 -- A data access on a chip of strips: its refusals are the rules' in their order, and where none holds its bytes lie in the packet's strip.
-use Rattle.std.specs.Prelude.{◌≡◌, Bool, not, ◌||◌, ℕ, ◌+◌, ◌*◌, ◌≤◌, ◌<◌, eqb, ltb, get_or}
+use Rattle.std.specs.Prelude.{◌≡◌, Bool, not, ◌||◌, ℕ, ◌+◌, ◌*◌, ◌≤◌, ◌<◌, eqb, get_or}
 use Rattle.std.proofs.Math.Path.{refl}
 use Rattle.std.proofs.Common.{ap, sym, ◌∙◌, true≢false, arith}
 use Rattle.std.proofs.Math.Bool.{true, false, cond}
 use mathlib.Core.List.{List, [], ◌∷◌}
-use borrow.Author.Tests.{ltb-false, lt-ltb}
+use borrow.Author.Tests.{ltb-false}
 use Rattle.std.proofs.Math.ListN.{length}
-use Rattle.rules.specs.Lists.{some?, up_from}
+use Rattle.rules.specs.Lists.{some?}
 use Rattle.rules.specs.Chip.{strips, Chip}
 use Rattle.rules.specs.Answers.{Effect, refuse}
 use Rattle.rules.specs.Packet.{get_bytes, put_bytes}
 use Rattle.rules.specs.Data.{address, against, odd_fixed, past, rcv}
 use Rattle.lists.specs.Facts.{or_left, or_right}
 use Rattle.wellformed.specs.Pool.{has_small}
-use Rattle.state.specs.View.{word, strips_from}
+use Rattle.state.specs.View.{strips_from}
 use Rattle.state.specs.Pages.{strip_at, strip_count, some_strip}
 use Rattle.state.specs.Promise.{ReadyOf}
 use Rattle.data.specs.Access.{width_of, bytes_for, refusal_if, refusal_of, if_any, unless_past}

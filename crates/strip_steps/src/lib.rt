@@ -1,4 +1,6 @@
 // What the chip of strips does (document 02, W3), on a state that is in order: accesses of a driver, frames that arrive, sends that finish.
+#![tactic(auto)]
+
 mod access; // access.rt: data accesses
 mod arrivals; // arrivals.rt: a frame arrives
 mod driver; // driver.rt: reads and writes of the sixteen I/O addresses

@@ -1,4 +1,6 @@
 // The chip of strips (document 02, W3): each packet has a strip of eight pages of its own, and of pages there are only numbers: how many each packet has, and how many are free.
+#![tactic(auto)]
+
 mod counts; // counts.rt: pages granted and given back
 mod order; // order.rt: is a state in order, refusal 16
 

@@ -5,7 +5,7 @@ use Rattle.rules.specs.Lists.{member, some?, owned, total, up_from}
 use Rattle.rules.specs.Chip.{Numbers, Layout, paged, strips, Pool, Chip, page_numbers, free_for}
 use Rattle.rules.specs.Answers.{refused}
 use Rattle.rules.specs.Step.{Input, lent, serve, step_of}
-use Rattle.rules.specs.WellFormed.{Above, Ascending, Distinct, GoodPages, GoodStrips, Laid, GoodQueues, GoodNumbers, GoodRequest, FormedAt}
+use Rattle.rules.specs.WellFormed.{Above, Ascending, Distinct, GoodPages, Laid, GoodQueues, GoodNumbers, GoodRequest, FormedAt}
 use Rattle.rules.specs.Tests.{above, ascends, all_below, apart, none_owned, pages_good, goes_up, own_good, laid_good, queue_good, queues_good, numbers_good, request_good, formed, fit}
 use Rattle.lists.specs.Facts.{if_not, Decides, agrees, always, is_true, is_false, ◌and◌, ◌or◌, lt_decides, le_decides, eq_decides, nobody}
 use Rattle.lists.specs.Each.{Each, each_member, member_each, members}

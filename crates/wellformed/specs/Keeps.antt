@@ -7,7 +7,7 @@ use Rattle.std.proofs.Math.ListN.{length}
 use Rattle.std.proofs.lemmas.List.{length-replicate}
 use Rattle.rules.specs.Bits.{bit, low_byte}
 use Rattle.rules.specs.Lists.{member, some?, first_empty}
-use Rattle.rules.specs.Chip.{Registers, Layout, paged, strips, Chip, size, page_numbers, free, powered}
+use Rattle.rules.specs.Chip.{Registers, Layout, Chip, size, page_numbers, free, powered}
 use Rattle.rules.specs.Fields.{set_rx, set_completion, in_registers, in_pool, in_memory}
 use Rattle.rules.specs.Answers.{Effect, Turn}
 use Rattle.rules.specs.WellFormed.{Distinct, Waits, Formed}

@@ -1,13 +1,13 @@
 -- What page lists have in both layouts, and keep: as many pages are free as packets have not; a packet that is granted pages gets them, and one that gives them back has none.
 use Rattle.std.specs.Prelude.{◌≡◌, refl, true, false, ℕ, zero, suc, ◌+◌, ◌-◌, ◌*◌, ◌≤◌, ◌<◌, get_or, set, take, replicate}
-use Rattle.std.proofs.Common.{ap, sym, ◌∙◌, true≢false, arith, length-set}
+use Rattle.std.proofs.Common.{ap, sym, ◌∙◌, arith, length-set}
 use Rattle.std.proofs.Math.Logic.{⊎_elim}
 use mathlib.Core.List.{List, []}
 use Rattle.std.proofs.Math.ListN.{length}
 use Rattle.std.proofs.lemmas.List.{length-replicate}
 use Rattle.rules.specs.Lists.{member, owned, free_below, total, up_from, first_empty}
 use Rattle.rules.specs.Chip.{Layout, paged, strips, page_numbers, free_for}
-use Rattle.rules.specs.WellFormed.{GoodPages, GoodStrips, Laid}
+use Rattle.rules.specs.WellFormed.{GoodPages, Laid}
 use Rattle.lists.specs.Facts.{nobody, member_free, member_take}
 use Rattle.lists.specs.Owned.{owned_none}
 use Rattle.lists.specs.UpFrom.{length_up, take_up, member_up, member_up_take, ascending_up}

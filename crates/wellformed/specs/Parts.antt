@@ -1,11 +1,10 @@
 -- The two parts (document 02, W9): what code needs to know of a part's size n, and that the step of either part is the step of the part that the chip is.
-use Rattle.std.specs.Prelude.{◌≡◌, refl, true, false, ℕ, ◌≤◌, ◌<◌, length}
-use Rattle.std.proofs.Common.{ap, sym, ◌∙◌, inl, inr, arith}
-use Rattle.rules.specs.Parts.{lan91c94, lan91c96, IsPart, part_of}
+use Rattle.std.specs.Prelude.{◌≡◌, refl, ℕ, ◌≤◌}
+use Rattle.std.proofs.Common.{ap, ◌∙◌, inl, inr, arith}
+use Rattle.rules.specs.Parts.{IsPart, part_of}
 use Rattle.rules.specs.Chip.{Chip, size}
-use Rattle.rules.specs.Answers.{Turn, refused}
-use Rattle.rules.specs.Step.{Input, lent, serve, step_of, step}
-use Rattle.wellformed.specs.Fit.{Fits, step_fit, step_unfit}
+use Rattle.rules.specs.Step.{Input, serve, step_of, step}
+use Rattle.wellformed.specs.Fit.{Fits, step_fit}
 
 -- A part has packets, and no more than document 01's.
 pub part_some : {n : ℕ} → IsPart n → 18 ≤ n

@@ -1,6 +1,6 @@
 -- Pages that are given back, and an allocation that may wait for them: once it is settled the chip is well formed again.
 use Rattle.std.specs.Prelude.{◌≡◌, refl, true, false, ℕ, ◌*◌, ◌≤◌, ◌<◌, length}
-use Rattle.std.proofs.Common.{ap, sym, ◌∙◌, true≢false, inl, inr, ⊎_elim, arith}
+use Rattle.std.proofs.Common.{sym, ◌∙◌, true≢false, inl, inr, ⊎_elim, arith}
 use Rattle.std.proofs.Math.Decide.{dec_le}
 use Rattle.rules.specs.Lists.{member}
 use Rattle.rules.specs.Chip.{Numbers, Chip, page_numbers, free}

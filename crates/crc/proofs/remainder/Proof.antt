@@ -1,7 +1,6 @@
 -- The preset is all ones, in either order.
 use mathlib.Core.Path.{◌≡◌, ap, sym, ◌∙◌}
 use borrow.Author.Rules.{rules}
-use Prim.Native.Nat.{ℕ}
 use Rattle.rules.specs.Crc.{crc, mirror}
 use Rattle.remainders.specs.Mirror.{mirror_back}
 use Rattle.crc.proofs.remainder.Statement.{statement}

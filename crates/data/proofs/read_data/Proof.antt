@@ -4,7 +4,6 @@ use mathlib.Core.Path.{◌≡◌, subst}
 use mathlib.Core.Bool.{Bool, true, false}
 use Prim.Native.Nat.{ℕ, ◌<◌}
 use native.Mathlib.Omega.{arith}
-use borrow.Author.Tests.{not-true, not-false}
 use Rattle.rules.specs.Data.{read_data}
 use Rattle.state.specs.View.{word}
 use Rattle.data.specs.declared.Gate.{Gate}

@@ -1,8 +1,7 @@
 -- The data is padded, and then its FCS follows it or not.
 use borrow.Author.Rules.{rules}
-use mathlib.Core.Path.{◌≡◌, refl, sym}
+use mathlib.Core.Path.{refl, sym}
 use native.Mathlib.Omega.{arith}
-use borrow.Author.Tests.{not-true, not-false}
 use lib.Seq.{length-take-le}
 use Rattle.on_wire.proofs.Padding.{ends_bare, ends_fcs}
 use Rattle.on_wire.proofs.end_out.Statement.{statement}

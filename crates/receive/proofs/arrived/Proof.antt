@@ -1,7 +1,6 @@
 -- Too short, turned away, or stored: `receive/specs/Arrives` has what each comes to.
 use borrow.Author.Rules.{rules}
 use mathlib.Core.Path.{◌∙◌, sym}
-use borrow.Author.Tests.{not-true, not-false}
 use Rattle.rules.specs.Receive.{Frame}
 use Rattle.state.specs.declared.Answer.TheVariants.{OutsideLimits}
 use Rattle.judging.specs.Frames.{frame_of}

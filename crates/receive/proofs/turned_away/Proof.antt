@@ -4,8 +4,7 @@ use mathlib.Core.Path.{◌≡◌, refl, ap, sym, subst, ◌∙◌}
 use mathlib.Core.Bool.{true≢false}
 use mathlib.Core.List.{List}
 use Prim.Native.Nat.{ℕ}
-use Rattle.rules.specs.Chip.{Chip}
-use Rattle.rules.specs.Answers.{Effect, done_with}
+use Rattle.rules.specs.Answers.{done_with}
 use Rattle.rules.specs.Receive.{value_for, after}
 use Rattle.state.specs.declared.Answer.{Answer}
 use Rattle.state.specs.declared.Answer.TheVariants.{Done}

@@ -1,11 +1,9 @@
 -- The high byte is read-only; else it is the command in the low byte.
 use borrow.Author.Rules.{rules}
-use mathlib.Core.Path.{◌≡◌, refl, ap, sym, subst, ◌∙◌}
-use mathlib.Core.List.{List}
+use mathlib.Core.Path.{refl, ap, sym, ◌∙◌}
 use Prim.Native.Nat.{ℕ}
 use Rattle.rules.specs.Mmu.{command}
 use Rattle.state.specs.View.{view}
-use Rattle.state.specs.Promise.{Makes}
 use Rattle.accesses.specs.Reach.{makes_as, orders, orders_none}
 use Rattle.accesses.proofs.writes.write_command.Statement.{statement}
 use Rattle.accesses.proofs.writes.write_command.Tie as tie

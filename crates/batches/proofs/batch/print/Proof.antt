@@ -1,9 +1,6 @@
 -- By the form: the bench's line, or that of `watch` with the interrupt line of the words.
 use borrow.Author.Rules.{rules}
-use mathlib.Core.Path.{◌≡◌}
-use Prim.Native.Nat.{◌≤◌}
 use native.Mathlib.Omega.{arith}
-use borrow.Author.Tests.{not-true, not-false}
 use Rattle.lists.specs.Written.{writes_as}
 use Rattle.batches.proofs.Forms.{plain_line, watched_line, wide_plain, wide_watched}
 use Rattle.batches.proofs.batch.print.Statement.{statement}

@@ -5,7 +5,6 @@ use mathlib.Core.Bool.{true, false}
 use mathlib.Core.List.{List}
 use Prim.Native.Nat.{ℕ}
 use native.Mathlib.Omega.{arith}
-use borrow.Author.Tests.{not-true, not-false}
 use Rattle.rules.specs.Bits.{low_byte}
 use Rattle.rules.specs.Data.{rcv}
 use Rattle.lists.specs.Facts.{head_and_rest}

@@ -1,7 +1,6 @@
 -- The tests one by one, each as the rules have it.
 use borrow.Author.Rules.{rules}
 use mathlib.Core.Path.{sym, ◌∙◌}
-use borrow.Author.Tests.{not-true, not-false}
 use Rattle.data.specs.Access.{refusal_if}
 use Rattle.data.proofs.checks.refusal.Statement.{statement}
 use Rattle.data.proofs.checks.refusal.Tie as tie

@@ -7,7 +7,6 @@ use mathlib.Core.List.{List, [], map}
 use Prim.Native.Nat.{ℕ, ◌+◌, ◌-◌, ◌*◌, ◌^◌, ◌≤◌, ◌<◌}
 use native.Mathlib.Omega.{arith}
 use borrow.Author.Rules.{rules}
-use borrow.Author.Tests.{not-true, not-false}
 use lib.Bits.{bit_or}
 use lib.ListN.{length, take, drop, get_or}
 use Rattle.rules.specs.Bits.{bit}

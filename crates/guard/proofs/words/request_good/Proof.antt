@@ -1,8 +1,7 @@
 -- Nothing waits; or one of the three asks fails; or the result decides.
 use mathlib.Core.Logic.{inl, inr, ⊎_elim}
 use native.Mathlib.Omega.{arith}
-use borrow.Author.Rules.{rules}
-use Rattle.lists.specs.Facts.{Decides, always, agrees, eq_decides}
+use Rattle.lists.specs.Facts.{always, agrees, eq_decides}
 use Rattle.sets.specs.Good.{never}
 use Rattle.guard.proofs.words.request_good.Statement.{statement}
 use Rattle.guard.proofs.words.request_good.Tie as tie

@@ -1,7 +1,6 @@
 -- The fixed bytes, the words that hold nothing, and the packet's numbers; the bank is bounded by its fixed byte.
 use native.Mathlib.Omega.{arith}
 use borrow.Author.Rules.{rules}
-use borrow.Author.Tests.{not-true, not-false}
 use Rattle.lists.specs.Facts.{refutes, agrees}
 use Rattle.guard.proofs.words.words_good.Statement.{statement}
 use Rattle.guard.proofs.words.words_good.Tie as tie

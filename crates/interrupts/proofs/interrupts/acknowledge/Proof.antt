@@ -1,7 +1,6 @@
 -- The latches, then the head of completion where one is asked for and there is one.
 use mathlib.Core.Path.{sym, ◌∙◌}
 use native.Mathlib.Omega.{arith}
-use borrow.Author.Tests.{not-true, not-false}
 use Rattle.interrupts.proofs.Acknowledge.{kept_then, queues_then, none_asked, none_there, head_leaves}
 use borrow.Author.Rules.{rules}
 use Rattle.interrupts.proofs.interrupts.acknowledge.Statement.{statement}

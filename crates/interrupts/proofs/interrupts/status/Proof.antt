@@ -1,6 +1,5 @@
 -- Each bit; the word of the latches is the sum of two.
 use Rattle.interrupts.proofs.Flags.{shows}
-use Rattle.rules.specs.Interrupts.{eph}
 use Rattle.interrupts.proofs.Latches.{latches_small}
 use borrow.Author.Rules.{rules}
 use Rattle.interrupts.proofs.interrupts.status.Statement.{statement}

@@ -1,6 +1,5 @@
 -- A word below 4 has bit 1 where it is above 1.
 use Rattle.state.specs.Links.{change_bit}
-use borrow.Author.Rules.{rules}
 use Rattle.interrupts.proofs.link.has_changed.Statement.{statement}
 use Rattle.interrupts.proofs.link.has_changed.Tie as tie
 

@@ -4,7 +4,6 @@ use borrow.Author.Rules.{rules}
 use mathlib.Core.Path.{sym, ap, ◌∙◌}
 use Prim.Native.Nat.{ℕ, ◌+◌, ◌*◌}
 use native.Mathlib.Omega.{arith}
-use borrow.Author.Tests.{not-true, not-false}
 use Rattle.rules.specs.Receive.{group_bits}
 use Rattle.judging.proofs.address.group_bits.Statement.{statement}
 use Rattle.judging.proofs.address.group_bits.Tie as tie

@@ -2,7 +2,6 @@
 -- a word, and each return knows what the pairs before it were.
 use borrow.Author.Rules.{rules}
 use mathlib.Core.Path.{sym, ◌∙◌}
-use borrow.Author.Tests.{not-true, not-false}
 use Rattle.judging.proofs.Places.{six_bytes}
 use Rattle.judging.proofs.address.is_address.Statement.{statement}
 use Rattle.judging.proofs.address.is_address.Tie as tie

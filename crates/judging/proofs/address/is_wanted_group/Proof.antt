@@ -2,7 +2,6 @@
 use borrow.Author.Rules.{rules}
 use mathlib.Core.Path.{sym, ap, ◌∙◌}
 use Prim.Native.Nat.{ℕ}
-use borrow.Author.Tests.{not-true, not-false}
 use Rattle.rules.specs.Receive.{in_table}
 use Rattle.state.specs.View.{registers_in}
 use Rattle.judging.proofs.address.is_wanted_group.Statement.{statement}

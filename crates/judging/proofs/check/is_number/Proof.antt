@@ -1,7 +1,6 @@
 -- The bytes go two by two, as those of an address do.
 use borrow.Author.Rules.{rules}
 use mathlib.Core.Path.{sym, ◌∙◌}
-use borrow.Author.Tests.{not-true, not-false}
 use Rattle.judging.proofs.Places.{four_bytes_lem}
 use Rattle.judging.proofs.check.is_number.Statement.{statement}
 use Rattle.judging.proofs.check.is_number.Tie as tie

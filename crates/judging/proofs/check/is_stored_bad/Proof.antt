@@ -1,7 +1,6 @@
 -- Where it is not gone through, it is known.
 use borrow.Author.Rules.{rules}
 use mathlib.Core.Path.{sym, ◌∙◌}
-use borrow.Author.Tests.{not-true}
 use Rattle.judging.proofs.check.is_stored_bad.Statement.{statement}
 use Rattle.judging.proofs.check.is_stored_bad.Tie as tie
 

@@ -7,7 +7,6 @@ use lib.ListN.{length}
 use Rattle.rules.specs.Bench.{decimal, hex4}
 use Rattle.lists.specs.Written.{writes_on, writes_as}
 use Rattle.lines.specs.Decimal.{decimal_length}
-use Rattle.lines.specs.Word.{bytes4}
 use Rattle.lines.proofs.line.shown_at.Statement.{statement}
 use Rattle.lines.proofs.line.shown_at.Tie as tie
 

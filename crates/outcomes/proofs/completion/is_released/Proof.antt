@@ -1,6 +1,5 @@
 -- A failed send releases nothing; else the bit decides.
 use borrow.Author.Rules.{rules}
-use borrow.Author.Tests.{not-true, not-false}
 use Rattle.outcomes.proofs.completion.is_released.Statement.{statement}
 use Rattle.outcomes.proofs.completion.is_released.Tie as tie
 

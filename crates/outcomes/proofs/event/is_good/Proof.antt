@@ -2,7 +2,7 @@
 use borrow.Author.Rules.{rules}
 use mathlib.Core.Path.{ap, sym, ◌∙◌}
 use mathlib.Core.Bool.{not, or-false, not-not}
-use borrow.Author.Tests.{not-true, not-false, ne_eqb}
+use borrow.Author.Tests.{ne_eqb}
 use Rattle.rules.specs.Send.{good}
 use Rattle.outcomes.proofs.event.is_good.Statement.{statement}
 use Rattle.outcomes.proofs.event.is_good.Tie as tie

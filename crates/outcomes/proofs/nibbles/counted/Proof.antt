@@ -1,6 +1,5 @@
 -- Below 15 one more is at most 15, and from 15 on it stays there.
 use borrow.Author.Rules.{rules}
-use borrow.Author.Tests.{not-true, not-false}
 use Rattle.rules.specs.Send.{counted}
 use Rattle.outcomes.proofs.nibbles.counted.Statement.{statement}
 use Rattle.outcomes.proofs.nibbles.counted.Tie as tie

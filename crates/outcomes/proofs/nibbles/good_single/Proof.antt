@@ -1,5 +1,4 @@
 -- By the outcome.
-use borrow.Author.Tests.{not-true, not-false}
 use Rattle.outcomes.proofs.nibbles.good_single.Statement.{statement}
 use Rattle.outcomes.proofs.nibbles.good_single.Tie as tie
 

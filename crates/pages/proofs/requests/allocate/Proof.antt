@@ -1,10 +1,10 @@
 -- Where enough pages are free a number is, and it gets the lowest of them.
-use mathlib.Core.Path.{◌≡◌, ap, sym, subst, ◌∙◌}
+use mathlib.Core.Path.{ap, sym, subst}
 use mathlib.Core.List.{map}
 use Prim.Native.Nat.{ℕ}
 use native.Mathlib.Omega.{arith}
 use borrow.Author.Rules.{rules}
-use lib.ListN.{length, set, take}
+use lib.ListN.{set, take}
 use Rattle.rules.specs.Lists.{first_empty}
 use Rattle.rules.specs.Chip.{paged, free_for}
 use Rattle.rules.specs.Fields.{set_result, set_waiting, set_pages, in_registers, in_pool}

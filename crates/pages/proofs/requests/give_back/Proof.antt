@@ -1,11 +1,10 @@
 -- The pages are free, then what waits is settled.
-use mathlib.Core.Path.{◌≡◌, ap, sym, ◌∙◌}
-use mathlib.Core.List.{List, [], map}
+use mathlib.Core.Path.{ap}
+use mathlib.Core.List.{[], map}
 use lib.ListN.{length, length-set}
 use native.Mathlib.Omega.{arith}
 use borrow.Author.Rules.{rules}
 use Rattle.rules.specs.Chip.{Registers}
-use Rattle.rules.specs.WellFormed.{GoodPages}
 use Rattle.wellformed.specs.Pages.{back_good}
 use Rattle.sets.specs.Views.{pages_of}
 use Rattle.sets.specs.Lists.{lists_length}

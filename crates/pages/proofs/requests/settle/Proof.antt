@@ -1,14 +1,13 @@
 -- Nothing waits, too few pages are free, or what waits is granted.
-use mathlib.Core.Path.{◌≡◌, refl, ap, sym, ◌∙◌}
-use mathlib.Core.List.{List, map}
-use Prim.Native.Nat.{ℕ, ◌/◌}
+use mathlib.Core.Path.{◌≡◌, refl, sym}
+use mathlib.Core.List.{map}
+use Prim.Native.Nat.{◌/◌}
 use native.Mathlib.Omega.{arith}
 use borrow.Author.Rules.{rules}
 use lib.ListN.{length}
 use Rattle.rules.specs.Chip.{paged, free_for}
 use Rattle.wellformed.specs.Settle.{settle_none, settle_later, settle_now}
 use Rattle.sets.specs.Views.{pages_of}
-use Rattle.sets.specs.Lists.{lists_length}
 use Rattle.state.specs.View.{word, view}
 use Rattle.pages.specs.Pages.{free_told, alters_as}
 use Rattle.pages.proofs.requests.settle.Statement.{statement}

@@ -1,5 +1,5 @@
 -- A shift to the left by n is 2 ^ n, which fits, and less one it is a set of n pages.
-use Rattle.std.proofs.Common.{◌≡◌, ℕ, ◌-◌, ◌*◌, ◌%◌, ◌^◌, ◌<◌, ◌≤◌, ap, ◌∙◌, one-mul, arith, pow_pos, shl_exact, rules}
+use Rattle.std.proofs.Common.{◌≡◌, ℕ, ◌-◌, ◌*◌, ◌%◌, ◌^◌, ◌≤◌, ap, ◌∙◌, one-mul, arith, pow_pos, shl_exact, rules}
 use Rattle.sets.proofs.map.all_pages.Statement.{statement}
 use Rattle.sets.proofs.map.all_pages.Tie as tie
 

@@ -1,6 +1,5 @@
 -- The bit is cleared, and the link's added in its place.
 use mathlib.Core.Path.{ap, ◌∙◌}
-use mathlib.Core.Bool.{Bool}
 use native.Mathlib.Omega.{arith}
 use borrow.Author.Rules.{rules}
 use Rattle.rules.specs.Bits.{flag, set_bit}

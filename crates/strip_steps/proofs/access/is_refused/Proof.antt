@@ -2,7 +2,6 @@
 use borrow.Author.Rules.{rules}
 use mathlib.Core.Path.{◌≡◌, sym, ◌∙◌}
 use mathlib.Core.Bool.{true, false}
-use native.Mathlib.Omega.{arith}
 use Rattle.rules.specs.Data.{address, against, odd_fixed}
 use Rattle.strip_steps.proofs.access.is_refused.Statement.{statement}
 use Rattle.strip_steps.proofs.access.is_refused.Tie as tie

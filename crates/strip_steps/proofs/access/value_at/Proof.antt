@@ -1,7 +1,5 @@
 -- By the width.
 use borrow.Author.Rules.{rules}
-use mathlib.Core.Path.{◌≡◌}
-use native.Mathlib.Omega.{arith}
 use Rattle.strip_steps.proofs.access.value_at.Statement.{statement}
 use Rattle.strip_steps.proofs.access.value_at.Tie as tie
 

@@ -4,7 +4,6 @@ use mathlib.Core.Bool.{true, ◌||◌}
 use mathlib.Core.List.{[], ◌∷◌, ◌++◌}
 use Prim.Native.Nat.{ℕ, ◌<◌}
 use native.Mathlib.Omega.{arith}
-use borrow.Author.Tests.{not-true, not-false}
 use lib.ListN.{get_or}
 use Rattle.rules.specs.Lists.{member, some?}
 use Rattle.rules.specs.Chip.{strips, Chip}

@@ -4,7 +4,6 @@ use mathlib.Core.List.{List}
 use Prim.Native.Nat.{ℕ}
 use native.Mathlib.Omega.{arith}
 use borrow.Author.Rules.{rules}
-use borrow.Author.Tests.{not-true, not-false}
 use Rattle.rules.specs.Parts.{IsPart}
 use Rattle.rules.specs.Chip.{strips}
 use Rattle.lists.specs.Facts.{refutes, agrees}
