@@ -2,23 +2,29 @@
 ghost use Rattle.std.specs.Prelude.{◌≡◌, ◌≤◌, length};
 
 use crate::errors::unread;
+use crate::handle::StandardStreams;
 use crate::input::{Reading, read_more};
 
 // Reads a record: eight bytes, or those that are left where the input ends. That it cannot be read is said. Returns how many bytes there are.
-pub fn read_record(program: &[u8], bytes: &mut [u8], number: u64) -> usize
+pub fn read_record<R: StandardStreams>(
+    rt: &R,
+    program: &[u8],
+    bytes: &mut [u8],
+    number: u64,
+) -> usize
     requires { (length bytes.old ≡ 8) × (1 ≤ number) }
     ensures { result ≤ 8 }
 {
     let mut filled = 0;
     while filled < 8 {
-        let reading = read_more(bytes, filled);
-        let Reading::Filled(n) = reading else {
-            if let Reading::Failed = reading {
-                unread(program, number - 1);
+        match read_more(rt, bytes, filled) {
+            Reading::Filled(n) => filled = n,
+            Reading::Ended => return filled,
+            Reading::Failed(reason) => {
+                unread(rt, program, number - 1, reason);
+                return filled;
             }
-            return filled;
-        };
-        filled = n;
+        }
     }
     filled
 }
