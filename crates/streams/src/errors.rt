@@ -32,7 +32,7 @@ fn words_of(text: &str) -> &str {
 }
 
 // A program that takes no argument says how it is used where it has one, and is not to go on.
-pub fn misused<R: Env + StandardStreams>(rt: &R, usage: &[u8]) -> bool {
+pub fn misused(rt: &(impl Env + StandardStreams), usage: &[u8]) -> bool {
     if let Err(FillError::NotPresent) = rt.arg(1, &mut []) {
         return false;
     }
@@ -41,14 +41,14 @@ pub fn misused<R: Env + StandardStreams>(rt: &R, usage: &[u8]) -> bool {
 }
 
 // The input cannot be read behind this record, for this reason.
-pub fn unread<R: StandardStreams>(rt: &R, program: &[u8], record: u64, reason: Error) {
+pub fn unread(rt: &impl StandardStreams, program: &[u8], record: u64, reason: Error) {
     rt.complain(program);
     let reason = Reason(reason);
     let _ = eprintln!(rt; ": standard input cannot be read after record {record}: {reason}");
 }
 
 // The output cannot be written behind the line of this record. A reader that went away ends a program quietly, as pipes do.
-pub fn unwritten<R: StandardStreams>(rt: &R, program: &[u8], record: u64, reason: Error) {
+pub fn unwritten(rt: &impl StandardStreams, program: &[u8], record: u64, reason: Error) {
     if reason.kind() == ErrorKind::BrokenPipe {
         return;
     }

@@ -15,7 +15,7 @@ pub enum Reading {
 }
 
 // Reads what is there into the buffer, and waits for a byte at least.
-fn read_some<R: StandardStreams>(rt: &R, buf: &mut [u8]) -> Reading
+fn read_some(rt: &impl StandardStreams, buf: &mut [u8]) -> Reading
     ensures { Fills 0 (length buf.old) result }
 {
     let mut turns = u64::MAX;
@@ -40,7 +40,7 @@ fn read_some<R: StandardStreams>(rt: &R, buf: &mut [u8]) -> Reading
 }
 
 // The same behind the bytes that are kept.
-pub fn read_more<R: StandardStreams>(rt: &R, input: &mut [u8], kept: usize) -> Reading
+pub fn read_more(rt: &impl StandardStreams, input: &mut [u8], kept: usize) -> Reading
     requires { kept ≤ length input.old }
     ensures filled { Fills kept (length input.old) result }
     ensures stay { take kept input.new ≡ take kept input.old }

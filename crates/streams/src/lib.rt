@@ -7,10 +7,10 @@ mod wait; // wait.rt: a pause, and the failures that are none
 mod input; // input.rt: reading
 mod output; // output.rt: writing
 mod errors; // errors.rt: what is said on standard error
-mod record; // record.rt: a record of eight bytes
+mod record; // record.rt: a record of eight bytes, and all of the input
 
 pub use errors::{misused, unread, unwritten};
 pub use handle::StandardStreams;
 pub use input::{Reading, read_more};
 pub use output::{Written, write_out};
-pub use record::read_record;
+pub use record::{read_full, read_record};

@@ -13,7 +13,7 @@ pub struct Written {
 }
 
 // Writes some of the bytes, and waits until one at least is taken. Returns how many were: 0 where they cannot be written.
-fn write_some<R: StandardStreams>(rt: &R, bytes: &[u8]) -> Written
+fn write_some(rt: &impl StandardStreams, bytes: &[u8]) -> Written
     ensures { result.done ≤ length bytes.now }
 {
     let mut turns = u64::MAX;
@@ -44,7 +44,7 @@ fn write_some<R: StandardStreams>(rt: &R, bytes: &[u8]) -> Written
 }
 
 // Writes the bytes, and returns how many were taken: all, unless the output cannot be written.
-pub fn write_out<R: StandardStreams>(rt: &R, bytes: &[u8]) -> Written
+pub fn write_out(rt: &impl StandardStreams, bytes: &[u8]) -> Written
     ensures within { result.done ≤ length bytes.now }
     ensures all { IsNone result.failure → result.done ≡ length bytes.now }
     ensures part { IsSome result.failure → result.done < length bytes.now }
