@@ -40,7 +40,7 @@ def read_crates():
     for line in open(os.path.join(ROOT, "crates.txt"), encoding="utf-8"):
         line = line.split("#")[0].strip()
         if line:
-            names.append(line.split(":")[0].strip())
+            names.append(line.split(":")[0].split()[0])
     return names
 
 
