@@ -70,18 +70,28 @@ def closing(text, at):
     raise SystemExit(f"no end of {text[at:at + 60]!r}")
 
 
+def behind_types(text, at):
+    """The place behind a function's type parameters, of which one may have round brackets in its bound; else this place."""
+    head = re.compile(r"pub fn \w+<").match(text, at)
+    depth, i = (1, head.end()) if head else (0, at)
+    while depth:
+        depth += (text[i] == "<") - (text[i] == ">" and text[i - 1] != "-")
+        i += 1
+    return i
+
+
 class Function:
     def __init__(self, crate, path, text, at):
         self.crate, self.path = crate, path
-        opened = text.index("(", at)
+        opened = text.index("(", behind_types(text, at))
         closed = closing(text, opened)
         self.arguments = " ".join(text[opened + 1 : closed].split())
         rest = text[closed + 1 :]
-        head = re.match(r"\s*(?:->\s*([^{]+?))?\s*(?=\b(?:requires|ensures)\b|\{)", rest)
+        head = re.match(r"\s*(?:->\s*([^{]+?))?\s*(?:\bwhere\b[^{]*?)?(?=\b(?:requires|ensures)\b|\{)", rest)
         self.result = head[1]
         contract = rest[head.end() :]
         self.requires, self.ensures = [], []
-        while clause := re.match(r"\s*(requires|ensures)\b\s*\w*\s*(?=\{)", contract):
+        while clause := re.match(r"\s*(requires|ensures)\b\*?\s*\w*\s*(?=\{)", contract):
             end = closing(contract, clause.end())
             (self.requires if clause[1] == "requires" else self.ensures).append(" ".join(contract[clause.end() + 1 : end].split()))
             contract = contract[end + 1 :]
