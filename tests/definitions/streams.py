@@ -34,14 +34,14 @@ def expected(records):
 
 # every definition that has to unfold, under a name with its module in front: the library's that the rules use, and those of the rules and of Told
 modules = [("rules", name, f"{specs}/{name}.antt") for name in re.findall(r"^pub mod (\S+)", open(f"{specs}/Lib.antt").read(), flags=re.M)]
-uses, unfolded = ["use mathlib.Core.Bool.{xor as Bool·xor}"], ["Bool·xor"]
-for crate, module, path in [*modules, ("streams·specs", "Told", f"{here}/Told.module")]:
+uses, unfolded = ["use Rattle.std.proofs.Math.Bool.{xor as Bool·xor}"], ["Bool·xor"]
+for crate, module, path in [*modules, ("told_streams", "Told", f"{here}/Told.module")]:
     names = unfoldable(path)
     unfolded += [f"{module}·{name}" for name in names]
     if names:
-        uses.append(f"use Rattle·{crate}.specs.{module}.{{{', '.join(f'{name} as {module}·{name}' for name in names)}}}")
+        uses.append(f"use Rattle.{crate}.specs.{module}.{{{', '.join(f'{name} as {module}·{name}' for name in names)}}}")
 
-print("use mathlib.Core.Path.{_≡_, refl}", "use mathlib.Core.List.{[], _∷_}", "use Rattle·streams·specs.specs.Told.{told}", *uses, sep="\n")
+print("use Rattle.std.specs.Prelude.{◌≡◌, refl, [], ◌∷◌}", "use Rattle.told_streams.specs.Told.{told}", *uses, sep="\n")
 for path in files:
     name = os.path.basename(path)
     records = open(path, "rb").read()

@@ -20,6 +20,8 @@ ROOT = os.path.dirname(os.path.dirname(os.path.dirname(os.path.abspath(__file__)
 PROMISES = os.path.join(os.path.dirname(os.path.abspath(__file__)), "promises.txt")
 DEMANDS = os.path.join(ROOT, "crates", "demands", "specs", "Demands.antt")
 OPEN, CLOSE = "([{«", ")]}»"
+# what a contract calls the value that is returned, and what is left of an argument that is lent
+RESULT, LEFT = "result", r"\w+\.new"
 # types that have something in them: a promise "of every" such thing asks for no instance
 DATA = {"ℕ", "List", "Lanes", "Register", "Layout"}
 
@@ -38,16 +40,21 @@ def read_crates():
     for line in open(os.path.join(ROOT, "crates.txt"), encoding="utf-8"):
         line = line.split("#")[0].strip()
         if line:
-            names.append(line.split(":")[0].strip())
+            names.append(line.split(":")[0].split()[0])
     return names
 
 
 def read_sources(crate):
     files = {}
     for path in sorted(glob.glob(os.path.join(ROOT, "crates", crate, "src", "*.rt"))):
-        text = open(path, encoding="utf-8").read()
-        files[os.path.basename(path)[:-3]] = re.sub(r"//[^\n]*", "", text).replace('pub extern "C" fn', "pub fn")
+        text = re.sub(r"//[^\n]*", "", open(path, encoding="utf-8").read()).replace('pub extern "C" fn', "pub fn")
+        files[os.path.basename(path)[:-3]] = re.sub(r"^((?:pub )?use [\w:]+)::\{([^{}]*)\};", one_by_one, text, flags=re.M)
     return files
+
+
+def one_by_one(use):
+    """A `use` of several names as one of each."""
+    return "\n".join(f"{use[1]}::{name.strip()};" for name in use[2].split(",") if name.strip())
 
 
 def closing(text, at):
@@ -63,24 +70,31 @@ def closing(text, at):
     raise SystemExit(f"no end of {text[at:at + 60]!r}")
 
 
+def behind_types(text, at):
+    """The place behind a function's type parameters, of which one may have round brackets in its bound; else this place."""
+    head = re.compile(r"pub fn \w+<").match(text, at)
+    depth, i = (1, head.end()) if head else (0, at)
+    while depth:
+        depth += (text[i] == "<") - (text[i] == ">" and text[i - 1] != "-")
+        i += 1
+    return i
+
+
 class Function:
     def __init__(self, crate, path, text, at):
         self.crate, self.path = crate, path
-        opened = text.index("(", at)
+        opened = text.index("(", behind_types(text, at))
         closed = closing(text, opened)
         self.arguments = " ".join(text[opened + 1 : closed].split())
         rest = text[closed + 1 :]
-        head = re.match(r"\s*(?:->\s*([\w\[\]; &]+?))?\s*(?=requires|ensures|\{)", rest)
+        head = re.match(r"\s*(?:->\s*([^{]+?))?\s*(?:\bwhere\b[^{]*?)?(?=\b(?:requires|ensures)\b|\{)", rest)
         self.result = head[1]
         contract = rest[head.end() :]
         self.requires, self.ensures = [], []
-        while True:
-            clause = re.match(r"\s*(requires|ensures)\s*\w*\s*\{(.*?⌝)\s*\}", contract, re.S)
-            if not clause:
-                break
-            said = re.match(r"\s*(?:λ (\S+)\. )?⌜ (.*) ⌝$", clause[2], re.S)
-            (self.requires if clause[1] == "requires" else self.ensures).append((said[1], " ".join(said[2].split())))
-            contract = contract[clause.end() :]
+        while clause := re.match(r"\s*(requires|ensures)\b\*?\s*\w*\s*(?=\{)", contract):
+            end = closing(contract, clause.end())
+            (self.requires if clause[1] == "requires" else self.ensures).append(" ".join(contract[clause.end() + 1 : end].split()))
+            contract = contract[end + 1 :]
 
     @property
     def name(self):
@@ -196,7 +210,7 @@ def premises_of(parts):
 
 
 class Fact:
-    def __init__(self, text, result, premises):
+    def __init__(self, text, premises):
         self.text, self.premises = text, premises
         sides = split_top(text, "≡")
         self.kind = "promise"
@@ -204,13 +218,12 @@ class Fact:
         self.fixes = text
         if len(sides) == 2:
             left = self.fixes = sides[0]
-            if (result and re.fullmatch(rf"{re.escape(result)}( \.\w+)*", left)) or re.fullmatch(r"now \(\w+ \.exit\)", left):
+            if re.fullmatch(rf"{RESULT}(\.\w+)*|{LEFT}", left):
                 self.kind = "equation"
             elif left.startswith("length "):
                 self.kind = "bound"
             else:
-                ends = rf" (?={re.escape(result)}\b|\(now )" if result else r" (?=\(now )"
-                self.head = re.split(ends, left)[0]
+                self.head = re.split(rf" (?={RESULT}\b|{LEFT}\b)", left)[0]
         elif len(split_top(text, "<")) == 2 or len(split_top(text, "≤")) == 2:
             self.kind = "bound"
 
@@ -219,15 +232,15 @@ class Fact:
         return what + "".join(f" (of every `{head_of(p)}`; one is required)" for p in self.premises)
 
 
-def facts_of(text, result, premises=()):
+def facts_of(text, premises=()):
     text = bare(text)
     arrows = split_top(text, "→")
     if len(arrows) > 1:
-        return facts_of(arrows[-1], result, list(premises) + premises_of(arrows[:-1]))
+        return facts_of(arrows[-1], list(premises) + premises_of(arrows[:-1]))
     parts = split_top(text, "×")
     if len(parts) > 1:
-        return [f for p in parts for f in facts_of(p, result, premises)]
-    return [Fact(text, result, list(premises))]
+        return [f for p in parts for f in facts_of(p, premises)]
+    return [Fact(text, list(premises))]
 
 
 # ---- what leaves one result
@@ -263,31 +276,31 @@ def check_theorem(text):
 
 def check_covers(f, facts, fields):
     """Is the result, and what each `&mut` argument leaves, in a promise that is more than a bound?"""
-    said = [(r, x) for r, x in facts if x.kind != "bound"]
+    said = [x for x in facts if x.kind != "bound"]
     for argument in f.lent():
-        if not any(f"({argument} .exit)" in x.fixes for _, x in said):
+        if not any(re.search(rf"(?<![\w.]){argument}\.new\b", x.fixes) for x in said):
             fail(f"{f.name}: nothing says what `{argument}` is left as")
     if not f.result:
         return
     reached = set()
-    for result, x in said:
-        for projection in re.findall(rf"(?<![\w·.]){re.escape(result or '_')}(?![\w·])( \.\w+)?", x.fixes):
-            reached.add(projection.strip(" ."))
+    for x in said:
+        for projection in re.findall(rf"(?<![\w·.]){RESULT}(?![\w·])(\.\w+)?", x.fixes):
+            reached.add(projection.strip("."))
     missing = [k for k in fields.get(f.result, []) if k not in reached]
     if "" not in reached and (not reached or missing):
         fail(f"{f.name}: nothing says what the result is" + (f" in its field {', '.join(missing)}" if reached else ""))
 
 
 def check_premises(f, facts):
-    asked = " ".join(text for _, text in f.requires)
-    for _, x in facts:
+    asked = " ".join(f.requires)
+    for x in facts:
         for p in x.premises:
             if not re.search(rf"(?<!\w){re.escape(head_of(p))}(?!\w)", asked):
                 fail(f"{f.name}: `requires` has no instance of `{head_of(p)}`, without which the promise `{x.text[:40]}..` says nothing")
 
 
 def row(f, users, fields, fixed, plain, unused, seen):
-    facts = [(result, x) for result, text in f.ensures for x in facts_of(text, result)]
+    facts = [x for text in f.ensures for x in facts_of(text)]
     who = ", ".join(f"`{u}`" for u in users)
     if not users:
         if f.name in unused:
@@ -296,14 +309,14 @@ def row(f, users, fields, fixed, plain, unused, seen):
             fail(f"{f.name}: exported, and used by no other crate")
     seen.add(f.name)
     if f.name in plain:
-        said = "; ".join(dict.fromkeys("a bound" if x.kind == "bound" else x.shown() for _, x in facts))
+        said = "; ".join(dict.fromkeys("a bound" if x.kind == "bound" else x.shown() for x in facts))
         return f"| `{f.name}` | {who} | {said or 'none'} | open: {plain[f.name]} |"
     if not f.ensures:
         fail(f"{f.name}: no contract says what it does")
     check_covers(f, facts, fields)
     check_premises(f, facts)
     shown, by = [], []
-    for _, x in facts:
+    for x in facts:
         if x.kind == "bound" or x.shown() in shown:
             continue
         shown.append(x.shown())

@@ -1,10 +1,11 @@
 // Runs steps below the public entries over and over, so that what they cost can be measured. Standard input, up to 4,096 bytes, is
 // records of 8 bytes: those of document 01 for reads and writes, and byte 0 = 6 for a frame of 1,518 bytes that arrives. Any other
 // does nothing. The records are answered 100 times over, and the sum of the answers' values is printed.
+#![tactic(auto)]
+
 ghost use Rattle.std.specs.Prelude.{◌≡◌, ◌/◌, ◌<◌, length};
 ghost use Rattle.state.specs.Entry.{InOrder};
 
-use libc::{STDIN_FILENO, STDOUT_FILENO};
 use state::{Answer, Part, Width};
 
 const ROUNDS: u64 = 100;
@@ -147,9 +148,9 @@ fn run(input: &[u8]) -> u64 {
     )
 }
 
-fn main() {
+fn main(rt: HostRuntime) {
     let mut input = [0; 4096];
-    let n = io::read_full(STDIN_FILENO, &mut input);
-    io::print_decimal(STDOUT_FILENO, run(&input[..n]));
-    io::write_all(STDOUT_FILENO, b"\n");
+    let n = streams::read_full(&rt, &mut input);
+    let sum = run(&input[..n]);
+    let _ = println!(rt; "{sum}");
 }

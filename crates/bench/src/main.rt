@@ -1,7 +1,9 @@
 // The program "bench": records on standard input, a line for each on standard output.
-fn main() {
-    if streams::misused(b"usage: bench < RECORDS > LINES\n") {
+#![tactic(auto)]
+
+fn main(rt: HostRuntime) {
+    if streams::misused(&rt, b"usage: bench < RECORDS > LINES\n") {
         return;
     }
-    serving::run(b"bench");
+    serving::run(&rt, b"bench");
 }

@@ -1,4 +1,6 @@
 // The bench again, on the cases that document 01 marks "Run".
-fn main() {
-    serving::run(b"bench_runs");
+#![tactic(auto)]
+
+fn main(rt: HostRuntime) {
+    serving::run(&rt, b"bench_runs");
 }

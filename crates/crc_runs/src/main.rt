@@ -1,7 +1,11 @@
 // Reads vectors from standard input, each a length of two bytes, the lower first, and that many bytes. Prints a line for each: the
 // length, the remainder as document 01 shifts it (left), the frame check sequence as the standard publishes it, and the hash in its two halves.
+#![tactic(auto)]
+
 ghost use Rattle.std.specs.Prelude.{◌≡◌};
 ghost use Rattle.rules.specs.Crc.{mirror};
+
+use std::io::Print;
 
 // The bits in the other order.
 fn turned(r: u32) -> u32
@@ -16,33 +20,31 @@ fn turned(r: u32) -> u32
     m
 }
 
-fn space() {
-    io::write_all(1, b" ");
+fn space(rt: &impl Print) {
+    let _ = print!(rt; " ");
 }
 
 // The three lowest bits.
-fn print_three(x: u32) {
-    io::print_decimal(1, (x / 4 % 2) as u64);
-    io::print_decimal(1, (x / 2 % 2) as u64);
-    io::print_decimal(1, (x % 2) as u64);
+fn print_three(rt: &impl Print, x: u32) {
+    let _ = print!(rt; "{}{}{}", x / 4 % 2, x / 2 % 2, x % 2);
 }
 
-fn print_line(bytes: &[u8]) {
+fn print_line(rt: &impl Print, bytes: &[u8]) {
     let r = turned(crc::remainder(bytes));
-    io::print_decimal(1, bytes.len() as u64);
-    space();
-    io::print_hex(1, r as u64, 8);
-    space();
-    io::print_hex(1, crc::fcs(bytes) as u64, 8);
-    space();
-    print_three(r / 0x2000_0000);
-    space();
-    print_three(r / 0x400_0000);
-    io::write_all(1, b"\n");
+    let _ = print!(rt; "{}", bytes.len());
+    space(rt);
+    let _ = print!(rt; "{r:08x}");
+    space(rt);
+    let _ = print!(rt; "{:08x}", crc::fcs(bytes));
+    space(rt);
+    print_three(rt, r / 0x2000_0000);
+    space(rt);
+    print_three(rt, r / 0x400_0000);
+    let _ = println!(rt; "");
 }
 
 // A line for each whole vector of the input.
-fn print_all(input: &[u8]) {
+fn print_all(rt: &impl Print, input: &[u8]) {
     let mut at = 0;
     while at < input.len() {
         let rest = &input[at..];
@@ -53,13 +55,13 @@ fn print_all(input: &[u8]) {
         if rest.len() < end {
             return;
         }
-        print_line(&rest[2..end]);
+        print_line(rt, &rest[2..end]);
         at += end;
     }
 }
 
-fn main() {
-    let mut space = io::large_buffer();
-    let n = io::read_full(0, &mut space);
-    print_all(&space[..n]);
+fn main(rt: HostRuntime) {
+    let mut space = [0; 65536];
+    let n = streams::read_full(&rt, &mut space);
+    print_all(&rt, &space[..n]);
 }

@@ -4,11 +4,13 @@
 // Byte 7 says how many pages the memory that is lent has, 0 where it has 24.
 // All cases have one memory and one wire, zeros at first: a send puts out to the wire, and a frame comes from it. Each case has a line,
 // in as many decimal digits as any other, so that all lines cost the same: the answer's number, its value, and a sum of the record given back.
+#![tactic(auto)]
+
 ghost use Rattle.std.specs.Prelude.{◌≡◌, ◌+◌, ◌*◌, ◌≤◌, length};
 
 use chip::Request;
-use libc::{STDIN_FILENO, STDOUT_FILENO};
 use state::{Answer, Pages, Queues, Registers, Returned, Width};
+use std::io::Print;
 
 // The bytes of a case.
 const CASE: usize = 240;
@@ -247,33 +249,33 @@ fn put(line: &mut [u8; 20], from: usize, to: usize, number: u32)
     }
 }
 
-fn write_line(line: &[u8; 20]) {
-    io::write_all(STDOUT_FILENO, line);
+fn write_line(rt: &impl Print, line: &[u8; 20]) {
+    let _ = rt.write_all(line);
 }
 
-fn print_line(x: Returned) {
+fn print_line(rt: &impl Print, x: Returned) {
     let answer = x.answer;
     let shown = state::printed(answer);
     let mut line = *b"NN VVVVV SSSSSSSSSS\n";
     put(&mut line, 0, 2, shown.0 as u32);
     put(&mut line, 3, 8, shown.1 as u32);
     put(&mut line, 9, 19, sum_of(x.registers, x.pages, x.queues));
-    write_line(&line);
+    write_line(rt, &line);
 }
 
 // Each complete case of the input.
-fn answer_all(input: &[u8], memory: &mut [u8], wire: &mut [u8]) {
+fn answer_all(rt: &impl Print, input: &[u8], memory: &mut [u8], wire: &mut [u8]) {
     let mut rest = input;
     while CASE <= rest.len() {
-        print_line(returned_of(&rest[0..CASE], memory, wire));
+        print_line(rt, returned_of(&rest[0..CASE], memory, wire));
         rest = &rest[CASE..];
     }
 }
 
-fn main() {
+fn main(rt: HostRuntime) {
     let mut input = [0; 131072];
-    let n = io::read_full(STDIN_FILENO, &mut input);
+    let n = streams::read_full(&rt, &mut input);
     let mut memory = [0; 6144];
     let mut wire = [0; 2052];
-    answer_all(&input[..n], &mut memory, &mut wire);
+    answer_all(&rt, &input[..n], &mut memory, &mut wire);
 }

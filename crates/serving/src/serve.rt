@@ -9,7 +9,7 @@ ghost use Rattle.serving.specs.Fills.{FillsMore};
 
 use batches::{answer_all, last_line, lone_line};
 use state::{Answer, Named, Part};
-use streams::Reading;
+use streams::{Reading, StandardStreams};
 
 // The bytes behind the last complete record go to the front; returns how many they are.
 fn keep_tail(input: &mut [u8], filled: usize) -> usize
@@ -42,19 +42,27 @@ fn line_count(bytes: &[u8]) -> u64
 }
 
 // Writes the lines that stand before `end`, the first being that of record `first`. Where that fails it says so, and behind which record; returns whether it went well.
-fn write_lines(program: &[u8], lines: &[u8], end: usize, first: u64) -> bool
+fn write_lines(
+    rt: &impl StandardStreams,
+    program: &[u8],
+    lines: &[u8],
+    end: usize,
+    first: u64,
+) -> bool
     requires { (end ≤ length lines.now) × (length lines.now ≤ 0x100000) × (1 ≤ first) × (first < 0x8000000000000000) }
 {
-    let done = streams::write_out(&lines[..end]);
-    if done == end {
+    let written = streams::write_out(rt, &lines[..end]);
+    let Some(reason) = written.failure else {
         return true;
-    }
-    streams::unwritten(program, first - 1 + line_count(&lines[..done]));
+    };
+    let record = first - 1 + line_count(&lines[..written.done]);
+    streams::unwritten(rt, program, record, reason);
     false
 }
 
 // The input is at its end, or cannot be read, which is said. A record that is cut short has its line.
 fn finish(
+    rt: &impl StandardStreams,
     program: &[u8],
     watching: bool,
     words: &[u16],
@@ -67,26 +75,27 @@ fn finish(
     requires kept { Kept words.now × ((q : List ℕ) × QueuesIn (figures words.now) q) × (length out.now ≡ 2052) }
     requires watching_in_bounds { (room_for watching 1 ≤ length lines.old) × (length lines.old ≤ 0x100000) × (1 ≤ number) × (number < 0x8000000000000000) }
 {
-    if let Reading::Failed = reading {
-        streams::unread(program, number - 1);
+    if let Reading::Failed(reason) = reading {
+        streams::unread(rt, program, number - 1, reason);
     }
     let end = last_line(watching, words, out, lines, kept, number);
-    write_lines(program, lines, end, number);
+    write_lines(rt, program, lines, end, number);
 }
 
 // What there is to answer: record 1 where it is kept whole, which was read before; else what is read behind the bytes that are kept.
-fn more(input: &mut [u8], kept: usize) -> Reading
+fn more(rt: &impl StandardStreams, input: &mut [u8], kept: usize) -> Reading
     requires { (kept ≤ 8) × (8 ≤ length input.old) }
     ensures { FillsMore kept (length input.old) result }
 {
     if kept == 8 {
         return Reading::Filled(8);
     }
-    streams::read_more(input, kept)
+    streams::read_more(rt, input, kept)
 }
 
 // Every record is answered before more is waited for, from record `first` on; of record 1, `left` bytes are in the input. The loop ends at record 2^63, which no run comes to.
 fn serve_from(
+    rt: &impl StandardStreams,
     program: &[u8],
     watching: bool,
     words: &mut [u16],
@@ -108,9 +117,11 @@ fn serve_from(
     let mut number = first;
     let mut kept = left;
     while number < 0x8000000000000000 {
-        let reading = more(input, kept);
+        let reading = more(rt, input, kept);
         let Reading::Filled(filled) = reading else {
-            finish(program, watching, words, out, lines, kept, number, reading);
+            finish(
+                rt, program, watching, words, out, lines, kept, number, reading,
+            );
             return;
         };
         let first = number;
@@ -128,7 +139,7 @@ fn serve_from(
             &mut end,
             &mut number,
         );
-        if !write_lines(program, lines, end, first) {
+        if !write_lines(rt, program, lines, end, first) {
             return;
         }
         kept = keep_tail(input, filled);
@@ -137,6 +148,7 @@ fn serve_from(
 
 // Where record 1 asked for the part, it is done, and its line is written; returns whether that went well.
 fn write_asked(
+    rt: &impl StandardStreams,
     program: &[u8],
     watching: bool,
     asked: bool,
@@ -151,7 +163,7 @@ fn write_asked(
         return true;
     }
     let end = lone_line(watching, words, out, lines, 1, Answer::Done(0));
-    write_lines(program, lines, end, 1)
+    write_lines(rt, program, lines, end, 1)
 }
 
 // How many bytes of record 1 are still to be answered: all eight, where it did not ask for the part.
@@ -176,6 +188,7 @@ fn next_number(asked: bool) -> u64
 
 // The places of the part's packets are lent, of 24, and the bytes of its pages, of 6,144.
 fn lend(
+    rt: &impl StandardStreams,
     program: &[u8],
     watching: bool,
     asked: bool,
@@ -196,6 +209,7 @@ fn lend(
     let left = left_of_first(asked);
     let first = next_number(asked);
     serve_from(
+        rt,
         program,
         watching,
         words,
@@ -213,6 +227,7 @@ fn lend(
 
 // From power-up of the part on, where record 1 is in the input: `asked` tells whether it asked for it.
 fn serve_part(
+    rt: &impl StandardStreams,
     program: &[u8],
     watching: bool,
     part: Part,
@@ -232,10 +247,11 @@ fn serve_part(
     let mut memory = [0; 6144];
     let mut wire = [0; 2048];
     let mut out = [0; 2052];
-    if !write_asked(program, watching, asked, &words, &out, lines) {
+    if !write_asked(rt, program, watching, asked, &words, &out, lines) {
         return;
     }
     lend(
+        rt,
         program,
         watching,
         asked,
@@ -251,7 +267,13 @@ fn serve_part(
 }
 
 // The input ends within record 1: the line of what is there, on the LAN91C96.
-fn serve_none(program: &[u8], watching: bool, lines: &mut [u8], kept: usize)
+fn serve_none(
+    rt: &impl StandardStreams,
+    program: &[u8],
+    watching: bool,
+    lines: &mut [u8],
+    kept: usize,
+)
     requires { (room_for watching 1 ≤ length lines.old) × (length lines.old ≤ 0x100000) }
 {
     let start = chip::power_up(Part::Lan91c96);
@@ -259,7 +281,7 @@ fn serve_none(program: &[u8], watching: bool, lines: &mut [u8], kept: usize)
     let words = registers.words;
     let out = [0; 2052];
     let end = last_line(watching, &words, &out, lines, kept, 1);
-    write_lines(program, lines, end, 1);
+    write_lines(rt, program, lines, end, 1);
 }
 
 // The part that powers up, and whether record 1 asked for it.
@@ -280,31 +302,37 @@ fn opens_with(named: Named) -> Opening {
 }
 
 // With these buffers for records and lines: record 1 may ask for the part, and without that it is the LAN91C96.
-fn start(program: &[u8], watching: bool, input: &mut [u8], lines: &mut [u8])
+fn start(
+    rt: &impl StandardStreams,
+    program: &[u8],
+    watching: bool,
+    input: &mut [u8],
+    lines: &mut [u8],
+)
     requires { (8 ≤ length input.old) × (length input.old ≤ 8192) × (room_for watching (length input.old / 8) ≤ length lines.old) × (length lines.old ≤ 0x100000) }
 {
-    let filled = streams::read_record(program, &mut input[..8], 1);
+    let filled = streams::read_record(rt, program, &mut input[..8], 1);
     if filled < 8 {
-        serve_none(program, watching, lines, filled);
+        serve_none(rt, program, watching, lines, filled);
         return;
     }
     let named = records::part_asked(&input[..8]);
     let opening = opens_with(named);
     let part = opening.part;
     let asked = opening.asked;
-    serve_part(program, watching, part, asked, input, lines);
+    serve_part(rt, program, watching, part, asked, input, lines);
 }
 
 // The bench; `program` is the name that it has on standard error.
-pub fn run(program: &[u8]) {
+pub fn run(rt: &impl StandardStreams, program: &[u8]) {
     let mut input = [0; 8192];
     let mut lines = [0; 32768];
-    start(program, false, &mut input, &mut lines);
+    start(rt, program, false, &mut input, &mut lines);
 }
 
 // The same with the lines of `watch`, each of which may have 4,104 digits: it reads 64 records at once.
-pub fn watch(program: &[u8]) {
+pub fn watch(rt: &impl StandardStreams, program: &[u8]) {
     let mut input = [0; 512];
     let mut lines = [0; 266240];
-    start(program, true, &mut input, &mut lines);
+    start(rt, program, true, &mut input, &mut lines);
 }

@@ -1,21 +1,41 @@
-// A record of eight bytes, as the benches read one by itself.
+// A record of eight bytes, as the benches read one by itself; and all of the input at once.
 ghost use Rattle.std.specs.Prelude.{◌≡◌, ◌≤◌, length};
 
 use crate::errors::unread;
+use crate::handle::StandardStreams;
 use crate::input::{Reading, read_more};
 
 // Reads a record: eight bytes, or those that are left where the input ends. That it cannot be read is said. Returns how many bytes there are.
-pub fn read_record(program: &[u8], bytes: &mut [u8], number: u64) -> usize
+pub fn read_record(
+    rt: &impl StandardStreams,
+    program: &[u8],
+    bytes: &mut [u8],
+    number: u64,
+) -> usize
     requires { (length bytes.old ≡ 8) × (1 ≤ number) }
     ensures { result ≤ 8 }
 {
     let mut filled = 0;
     while filled < 8 {
-        let reading = read_more(bytes, filled);
-        let Reading::Filled(n) = reading else {
-            if let Reading::Failed = reading {
-                unread(program, number - 1);
+        match read_more(rt, bytes, filled) {
+            Reading::Filled(n) => filled = n,
+            Reading::Ended => return filled,
+            Reading::Failed(reason) => {
+                unread(rt, program, number - 1, reason);
+                return filled;
             }
+        }
+    }
+    filled
+}
+
+// Fills the buffer, up to where the input ends, or cannot be read, which is not said. Returns how many bytes there are.
+pub fn read_full(rt: &impl StandardStreams, bytes: &mut [u8]) -> usize
+    ensures { result ≤ length bytes.old }
+{
+    let mut filled = 0;
+    while filled < bytes.len() {
+        let Reading::Filled(n) = read_more(rt, bytes, filled) else {
             return filled;
         };
         filled = n;

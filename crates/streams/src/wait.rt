@@ -1,24 +1,18 @@
-// Waiting for a descriptor that is not ready. The kit has no poll, so a program looks again every millisecond.
-use libc::types::timespec;
+// Waiting for a descriptor that is not ready. std has no poll, so a program looks again every millisecond.
+use std::io::{Error, ErrorKind};
+use std::thread;
+use std::time::{Clock, Duration};
 
-// Waits for a millisecond, or until a signal comes.
-pub fn pause() {
-    let asked = timespec {
-        tv_sec: 0,
-        tv_nsec: 1000000,
-    };
-    let mut left = timespec {
-        tv_sec: 0,
-        tv_nsec: 0,
-    };
-    libc::nanosleep(&asked, &mut left);
+// Waits for a millisecond.
+pub fn pause(rt: &impl Clock) {
+    thread::sleep(rt, Duration::from_millis(1));
 }
 
-// Did the last call fail only because nothing is there yet, or because a signal came?
-pub fn is_early() -> bool {
-    let error = os::errno();
-    if error == libc::EAGAIN {
+// Did a call fail only because nothing is there yet, or because a signal came?
+pub fn is_early(reason: Error) -> bool {
+    let kind = reason.kind();
+    if kind == ErrorKind::WouldBlock {
         return true;
     }
-    error == libc::EINTR
+    kind == ErrorKind::Interrupted
 }

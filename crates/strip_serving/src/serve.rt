@@ -12,6 +12,7 @@ ghost use Rattle.strip_serving.specs.First.{answers_on, starts_as, AskedBy, Open
 
 use lines::Counter;
 use state::{Answer, Named, Part};
+use streams::StandardStreams;
 use strip_turns::answer;
 
 // The answer to a record. One that asked for the part, as record 1, is done: `started` tells that its part has powered up.
@@ -94,18 +95,26 @@ fn opens_with(bytes: &[u8]) -> Opening
 }
 
 // Writes the line of a record, which stands before `end`. Where that fails it says so, and behind which record; returns whether it went well.
-fn write_line(program: &[u8], line: &[u8], end: usize, number: u64) -> bool
+fn write_line(
+    rt: &impl StandardStreams,
+    program: &[u8],
+    line: &[u8],
+    end: usize,
+    number: u64,
+) -> bool
     requires { (end ≤ length line.now) × (1 ≤ number) }
 {
-    if streams::write_out(&line[..end]) == end {
+    let written = streams::write_out(rt, &line[..end]);
+    let Some(reason) = written.failure else {
         return true;
-    }
-    streams::unwritten(program, number - 1);
+    };
+    streams::unwritten(rt, program, number - 1, reason);
     false
 }
 
 // Each record is served before the next is waited for, until the input ends; record 1, of `first` bytes, has been read, and `asked` tells whether it asked for the part. The loop ends at record 2^63, which no run comes to.
 fn serve_from(
+    rt: &impl StandardStreams,
     program: &[u8],
     words: &mut [u16],
     counts: &mut [u32],
@@ -142,7 +151,7 @@ fn serve_from(
             counter,
             &mut line,
         );
-        if !write_line(program, &line, end, counter.number) {
+        if !write_line(rt, program, &line, end, counter.number) {
             return;
         }
         if filled < 8 {
@@ -150,14 +159,14 @@ fn serve_from(
         }
         started = false;
         counter = lines::next(counter);
-        filled = streams::read_record(program, bytes, counter.number);
+        filled = streams::read_record(rt, program, bytes, counter.number);
     }
 }
 
 // The bench of strips to the end of the input; `program` is the name that it has on standard error. Record 1 is read before the chip powers up, for it may ask for the part.
-pub fn run(program: &[u8]) {
+pub fn run(rt: &impl StandardStreams, program: &[u8]) {
     let mut bytes = [0; 8];
-    let filled = streams::read_record(program, &mut bytes, 1);
+    let filled = streams::read_record(rt, program, &mut bytes, 1);
     let opening = opens_with(&bytes[..filled]);
     let part = opening.part;
     let asked = opening.asked;
@@ -173,6 +182,7 @@ pub fn run(program: &[u8]) {
     let mut wire = [0; 2048];
     let mut out = [0; 2052];
     serve_from(
+        rt,
         program,
         &mut words,
         &mut counts[..n],

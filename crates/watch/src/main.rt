@@ -1,7 +1,9 @@
 // The program "watch": the bench, with the interrupt line and the bytes that a send puts out on its lines.
-fn main() {
-    if streams::misused(b"usage: watch < RECORDS > LINES\n") {
+#![tactic(auto)]
+
+fn main(rt: HostRuntime) {
+    if streams::misused(&rt, b"usage: watch < RECORDS > LINES\n") {
         return;
     }
-    serving::watch(b"watch");
+    serving::watch(&rt, b"watch");
 }

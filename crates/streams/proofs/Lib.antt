@@ -1,2 +1,0 @@
--- Laws that the proofs of the functions cite.
-pub mod Fill
