@@ -16,9 +16,9 @@ use Rattle.rules.specs.Send.{in_limits, byte_count, send_length, appends, padded
 use Rattle.rules.specs.Step.{Input, serve, step_of, run_of}
 use Rattle.blind_laws.specs.Alike as alike
 use Rattle.blind_laws.specs.Alike.{FrameAlike, InputsAlike, accessed, arrived, none, RunsAlike}
-use Rattle.blind_laws.specs.Blindness.{blind}
+use Rattle.blind_laws.proofs.Blindness.{blind}
 use Rattle.blind_laws.specs.Private.{none_private, noted_all, private_after, SendsOpen}
-use Rattle.blind_laws.specs.PrivateKept.{open_alike}
+use Rattle.blind_laws.proofs.PrivateKept.{open_alike}
 use Rattle.blind_needed.specs.BlindNeeded.{plain, marked, sent_on, finished}
 
 -- the one run, and the other

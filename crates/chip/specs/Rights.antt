@@ -16,8 +16,10 @@ use Rattle.rules.specs.Link.{plug}
 use Rattle.rules.specs.Step.{Input, driver, frame, sent, link, lent, serve, step}
 use Rattle.lists.specs.Facts.{Decides}
 use Rattle.wellformed.specs.Fit.{Fits}
-use Rattle.wellformed.specs.Parts.{part_few, step_of_part, step_serves}
-use Rattle.wellformed.specs.Keeps.{keeps, powered_fits}
+use Rattle.wellformed.specs.Parts.{part_few}
+use Rattle.wellformed.proofs.Parts.{step_of_part, step_serves}
+use Rattle.wellformed.specs.Keeps.{powered_fits}
+use Rattle.wellformed.proofs.Keeps.{keeps}
 use Rattle.sets.specs.Views.{pages_of}
 use Rattle.sets.specs.Lists.{empty_sets}
 use Rattle.state.specs.declared.part.Part.{Part}

@@ -6,7 +6,7 @@ use Rattle.rules.specs.Answers.{Reply}
 use Rattle.rules.specs.Step.{Input, step_of, run_of}
 use Rattle.strip_laws.specs.Written.{Marks, unwritten, written, written_by, OnlyWritten}
 use Rattle.strip_laws.specs.Strips.{Agree, SameReply, Alike}
-use Rattle.strip_laws.specs.StripsAlike.{strips_beside}
+use Rattle.strip_laws.proofs.StripsAlike.{strips_beside}
 use Rattle.demands.specs.Boards.{Board, Left, reply_to, board_after, chip_of, GoodOf, Starts, Runs, serves_right, runs_right}
 use Rattle.demands.specs.OfCode.{starts_up}
 

@@ -5,9 +5,9 @@ use Rattle.rules.specs.Chip.{Layout, Chip, powered}
 use Rattle.rules.specs.Interrupts.{line_up}
 use Rattle.rules.specs.Answers.{Turn}
 use Rattle.rules.specs.Step.{Input, step_of}
-use Rattle.state.specs.Only.{one_record}
+use Rattle.state.proofs.Only.{one_record}
 use Rattle.blind_laws.specs.Alike.{InputsAlike, none, next, SendsAlike, ButBytes, TurnsAlike}
-use Rattle.blind_laws.specs.Blindness.{same_step}
+use Rattle.blind_laws.proofs.Blindness.{same_step}
 use Rattle.demands.specs.Boards.{Board, Left, board_after, chip_of, GoodOf, Starts, Shows, Runs, AsRules, serves_right}
 use Rattle.demands.specs.OfCode.{starts_up}
 use Rattle.demands.specs.LinkOfCode.{turn_of}

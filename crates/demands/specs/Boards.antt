@@ -8,13 +8,13 @@ use Rattle.rules.specs.Parts.{IsPart}
 use Rattle.rules.specs.Chip.{Layout, Chip, size}
 use Rattle.rules.specs.Answers.{Reply, Turn, refusal}
 use Rattle.rules.specs.Step.{Input, lent, step, step_of, run_of}
-use Rattle.wellformed.specs.Parts.{step_of_part}
+use Rattle.wellformed.proofs.Parts.{step_of_part}
 use Rattle.laws.specs.Layout.{size_stays}
 use Rattle.state.specs.declared.Answer.{Answer}
 use Rattle.state.specs.Meaning.{reply_of}
 use Rattle.state.specs.Entry.{size_in, record_view, HoldsOf, WholeOf, AnswersOf, StartedOf, LinesOf, zeros}
 use Rattle.state.specs.Places.{names_part, places_told}
-use Rattle.state.specs.Only.{one_record, only}
+use Rattle.state.proofs.Only.{one_record, only}
 
 -- what a caller hands over: the 32 words of the registers, 24 places with each packet's page set (of strips how many pages it has), the 72 bytes of the queues, and the memory that is lent
 pub record Board : Type 0 where

@@ -14,26 +14,34 @@ use Rattle.rules.specs.Receive.{Frame, bad_crc}
 use Rattle.rules.specs.Send.{Send}
 use Rattle.rules.specs.Step.{Input, driver, frame, sent, link, lent, step_of, step, run_of}
 use Rattle.lists.specs.Each.{Each}
-use Rattle.wellformed.specs.Parts.{part_few, step_of_part}
+use Rattle.wellformed.specs.Parts.{part_few}
+use Rattle.wellformed.proofs.Parts.{step_of_part}
 use Rattle.laws.specs.Sendable.{Reaches, ByCount, Before, told_by_count, told_before}
-use Rattle.laws.specs.Refusals.{refusals, Unchanged, Valued, numbers_given, refusal_leaves, refusal_value, sixteen_where, sixteen_there, never_seventeen}
+use Rattle.laws.specs.Refusals.{refusals, Unchanged, Valued, sixteen_there}
+use Rattle.laws.proofs.Refusals.{numbers_given, refusal_leaves, refusal_value, sixteen_where, never_seventeen}
 use Rattle.laws.specs.Accounted.{IsFree, InOne}
 use Rattle.laws.specs.Ledger.{Ledger, Resets, blank, ledger_from}
 use Rattle.laws.specs.Reading.{Balances}
-use Rattle.laws.specs.Fcs.{bytes_out, AppendsFcs, OneByteApart, step_sends_good, one_byte_changed_is_found}
+use Rattle.laws.specs.Fcs.{bytes_out, AppendsFcs, OneByteApart}
+use Rattle.laws.proofs.Fcs.{step_sends_good, one_byte_changed_is_found}
 use Rattle.laws.specs.Head.{head_pages}
 use Rattle.laws.specs.Layout.{size_stays}
 use Rattle.laws.specs.LinkApart.{ByLink, but_status, TurnsApart, LinkApart, SameAnswers, link_first, link_last}
-use Rattle.laws.specs.LinkPlaces.{link_alone, link_apart, link_and_frame, link_and_send, link_and_refused_send}
+use Rattle.laws.specs.LinkPlaces.{link_alone}
+use Rattle.laws.proofs.LinkPlaces.{link_apart, link_and_frame, link_and_send, link_and_refused_send}
 use Rattle.laws.specs.Loads.{Loads}
-use Rattle.laws.specs.Merge.{Merge, Alike, any_two_lem}
+use Rattle.laws.specs.Merge.{Merge, Alike}
+use Rattle.laws.proofs.Merge.{any_two_lem}
 use Rattle.strip_laws.specs.Written.{unwritten, OnlyWritten}
-use Rattle.strip_laws.specs.StripsAlike.{StripsBeside, strips_beside}
+use Rattle.strip_laws.specs.StripsAlike.{StripsBeside}
+use Rattle.strip_laws.proofs.StripsAlike.{strips_beside}
 use Rattle.blind_laws.specs.Alike.{InputsAlike, SendsAlike, RunsAlike}
-use Rattle.blind_laws.specs.Blindness.{blind}
+use Rattle.blind_laws.proofs.Blindness.{blind}
 use Rattle.blind_laws.specs.Private.{none_private, SendsOpen}
-use Rattle.blind_laws.specs.PrivateKept.{OpenRuns, open_alike}
-use Rattle.laws.specs.Theorems.{Whole, power_up_whole, step_whole, pages_accounted, since_power_up, since_reset}
+use Rattle.blind_laws.specs.PrivateKept.{OpenRuns}
+use Rattle.blind_laws.proofs.PrivateKept.{open_alike}
+use Rattle.laws.specs.Theorems.{Whole}
+use Rattle.laws.proofs.Theorems.{power_up_whole, step_whole, pages_accounted, since_power_up, since_reset}
 use Rattle.demands.specs.Boards.{Board, part_in, Left, reply_to, board_after, chip_of, ReadyBy, Good, GoodOf, Serves, Starts, Shows, Runs, Refused16, AsRules, good_part, good_size, serves_right, serves_refused, serves_once}
 use Rattle.demands.specs.OfCode.{good_whole, serves_numbers, serves_leaves, serves_values, serves_sixteen, serves_no17, serves_part, serves_earlier, serves_counts, serves_pages, starts_up, BalancesOn, runs_balanced, runs_balanced_since, serves_good_crc, AlikeOn, any_two_on}
 use Rattle.demands.specs.BesideCode.{BesideOn, runs_beside}

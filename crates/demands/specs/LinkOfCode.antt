@@ -9,7 +9,8 @@ use Rattle.rules.specs.Step.{Input, frame, sent, link, step_of}
 use Rattle.state.specs.Decided.{decided}
 use Rattle.laws.specs.Head.{head_pages}
 use Rattle.laws.specs.LinkApart.{ByLink, but_status, TurnsApart, SameAnswers, link_first, link_last}
-use Rattle.laws.specs.LinkPlaces.{link_alone, link_apart, link_and_frame, link_and_send}
+use Rattle.laws.specs.LinkPlaces.{link_alone}
+use Rattle.laws.proofs.LinkPlaces.{link_apart, link_and_frame, link_and_send}
 use Rattle.demands.specs.Boards.{Board, part_in, Left, reply_to, chip_of, Good, GoodOf, Serves, AsRules, one_board, good_size, own, serves_right, serves_refused}
 
 -- A link event and another input in either order: u and v are left where the link event comes first, y and z where it comes last. Each is answered as if it came first.

@@ -13,14 +13,18 @@ use Rattle.rules.specs.Send.{Send}
 use Rattle.rules.specs.Step.{Input, driver, frame, sent, lent, step_of, run_of}
 use Rattle.wellformed.specs.Parts.{part_few}
 use Rattle.laws.specs.Sendable.{Reaches, ByCount, Before, told_by_count, told_before}
-use Rattle.laws.specs.Refusals.{refusals, Valued, numbers_given, refusal_leaves, refusal_value, sixteen_where, never_seventeen}
+use Rattle.laws.specs.Refusals.{refusals, Valued}
+use Rattle.laws.proofs.Refusals.{numbers_given, refusal_leaves, refusal_value, sixteen_where, never_seventeen}
 use Rattle.laws.specs.Accounted.{IsFree, InOne}
 use Rattle.laws.specs.Ledger.{Ledger, Resets, blank, ledger_from}
-use Rattle.laws.specs.Fcs.{AppendsFcs, step_sends_good}
+use Rattle.laws.specs.Fcs.{AppendsFcs}
+use Rattle.laws.proofs.Fcs.{step_sends_good}
 use Rattle.laws.specs.Loads.{Loads}
-use Rattle.laws.specs.Merge.{Merge, lefts, rights, lefts_alike, rights_alike, any_two_lem}
+use Rattle.laws.specs.Merge.{Merge, lefts, rights, lefts_alike, rights_alike}
+use Rattle.laws.proofs.Merge.{any_two_lem}
 use Rattle.laws.specs.Reading.{read_byte, read_word, told, reads, Balances}
-use Rattle.laws.specs.Theorems.{Whole, power_up_whole, pages_accounted, since_power_up, since_reset}
+use Rattle.laws.specs.Theorems.{Whole}
+use Rattle.laws.proofs.Theorems.{power_up_whole, pages_accounted, since_power_up, since_reset}
 use Rattle.state.specs.Entry.{record_view, WholeOf}
 use Rattle.state.specs.Places.{places_told}
 use Rattle.state.specs.Decided.{decided}

@@ -13,7 +13,7 @@ use Rattle.lists.specs.Owned.{owned_in}
 use Rattle.wellformed.specs.Pages.{first_empty_lem}
 use Rattle.wellformed.specs.Pool.{number_free}
 use Rattle.wellformed.specs.Fit.{Fits}
-use Rattle.wellformed.specs.Keeps.{keeps}
+use Rattle.wellformed.proofs.Keeps.{keeps}
 use Rattle.laws.specs.Layout.{layout_stays}
 
 -- A page is in exactly one packet, at exactly one place of its list, and not listed as free.

@@ -8,7 +8,7 @@ use Rattle.rules.specs.Receive.{Frame, arrive}
 use Rattle.wellformed.specs.Fit.{Fits}
 use Rattle.wellformed.specs.Pool.{good_lists}
 use Rattle.laws.specs.Reception.{Reception, receive, reception, seen, frame_is, frame_reads, frame_writes}
-use Rattle.laws.specs.Loading.{Load, load_reads, load_writes}
+use Rattle.laws.specs.Loading.{Load}
 
 pub record Exchanged (a : Access) (f : Frame) (c : Chip) : Type 0 where
   pub chip : (access a (arrive f c).chip).chip ≡ (arrive f (access a c).chip).chip
@@ -16,19 +16,3 @@ pub record Exchanged (a : Access) (f : Frame) (c : Chip) : Type 0 where
   pub access_reply : (access a (arrive f c).chip).reply ≡ (access a c).reply
   -- the frame is answered after the access as before it
   pub frame_reply : (arrive f (access a c).chip).reply ≡ (arrive f c).reply
-
-pub exchange : {n : ℕ} (a : Access) (f : Frame) (c : Chip) → Fits n c → Load c c a → Exchanged a f c
-exchange a f c fits l =
-    let x = reception f c.regs c.pool in
-    let d = (access a c).chip in
-    let before = load_reads x c (frame_writes f c.regs c.pool (good_lists fits.0)) a l in
-    let w = load_writes c c a l in
-    let same : reception f d.regs d.pool ≡ x =
-    frame_reads f d.regs d.pool ∙ (λ i. reception f (seen (w.registers i)) (w.pool i)) ∙ sym (frame_reads f c.regs c.pool) in
-    record {
-      chip =
-          ap (λ (s : Effect). (access a s.chip).chip) (frame_is f c) ∙ before.chip
-          ∙ ap (λ (y : Reception). receive y d) (sym same) ∙ sym (ap (λ (s : Effect). s.chip) (frame_is f d));
-      access_reply = ap (λ (s : Effect). (access a s.chip).reply) (frame_is f c) ∙ before.reply;
-      frame_reply = ap (λ (s : Effect). s.reply) (frame_is f d) ∙ ap (λ (y : Reception). y.reply) same ∙ sym (ap (λ (s : Effect). s.reply) (frame_is f c));
-    }

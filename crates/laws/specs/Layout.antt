@@ -10,8 +10,8 @@ use Rattle.rules.specs.Mmu.{decode}
 use Rattle.rules.specs.Registers.{Lanes, Register, TCR, EPHSR, RCR, ECR, MIR, RESERVED, STATION, CONTROL, COMMAND, PACKET, HEADS, POINTER, DATA, INTERRUPT, TABLE, BANK, UNUSED, ABSENT, bytes_of, new_rcr, write_rcr, write_register, register_at, misplaced, lanes_at, Access, read, write, access}
 use Rattle.rules.specs.Step.{Input, driver, frame, sent, link, serve, step_of}
 use Rattle.wellformed.specs.Cases.{pick, by_lanes, by_read, by_plug, by_step}
-use Rattle.wellformed.specs.Fit.{fit_decides, step_unfit}
-use Rattle.wellformed.specs.Keeps.{keeps}
+use Rattle.wellformed.proofs.Fit.{fit_decides, step_unfit}
+use Rattle.wellformed.proofs.Keeps.{keeps}
 use Rattle.laws.specs.Untouched.{performs, reads_data, writes_data, writes_interrupt, arrives, finishes}
 
 module _ (c : Chip) where

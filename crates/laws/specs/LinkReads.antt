@@ -87,13 +87,6 @@ shown_low up down e = stored up ∙ sym (stored down)
     stored true = omega arith
     stored false = omega arith
 
--- EPHSR on both, by either byte and as a word.
-pub ephsr_beside : (p : Lanes) (up down : Bool) (e : ℕ) → beside_link EPHSR p (taken p (shown up e)) ≡ beside_link EPHSR p (taken p (shown down e))
-unfolding taken
-ephsr_beside low up down e = shown_low up down e
-ephsr_beside high up down e = shown_high up down e
-ephsr_beside both up down e = shown_word up down e
-
 -- The interrupt status but for EPH, which is bit 5: five bits.
 abbrev but_eph : Chip → ℕ
 but_eph c =

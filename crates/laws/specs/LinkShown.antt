@@ -14,7 +14,8 @@ use Rattle.rules.specs.Step.{sent, serve, step_of}
 use Rattle.rules.specs.Tests.{fit}
 use Rattle.lists.specs.Facts.{member_first}
 use Rattle.wellformed.specs.Cases.{pick, pick_unless, by_settle, by_send}
-use Rattle.wellformed.specs.Fit.{Fits, fit_decides}
+use Rattle.wellformed.specs.Fit.{Fits}
+use Rattle.wellformed.proofs.Fit.{fit_decides}
 use Rattle.laws.specs.Head.{byte_at, head_pages}
 use Rattle.laws.specs.Placed.{Placed, placed, put_there}
 use Rattle.laws.specs.LinkReads.{shown_bit}

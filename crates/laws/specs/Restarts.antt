@@ -6,7 +6,7 @@ use Rattle.rules.specs.Chip.{Chip}
 use Rattle.rules.specs.Mmu.{decode, perform}
 use Rattle.rules.specs.Registers.{Width, Lanes, low, high, both, RCR, COMMAND, write, register_at, misplaced, lanes_at, new_rcr, write_rcr, low_only, write_register, access}
 use Rattle.rules.specs.Step.{driver, serve}
-use Rattle.wellformed.specs.Fit.{step_fit}
+use Rattle.wellformed.proofs.Fit.{step_fit}
 use Rattle.laws.specs.Ledger.{Resets, command_entries, write_entries, input_entries, entries_of}
 use Rattle.laws.specs.Theorems.{Whole}
 

@@ -13,7 +13,8 @@ use Rattle.rules.specs.Send.{Send, in_limits, byte_count, no_place, send_head, i
 use Rattle.rules.specs.Step.{sent, serve, step_of}
 use Rattle.lists.specs.Facts.{Decides, le_decides, eq_decides, ◌and◌, no_head, head_and_rest}
 use Rattle.wellformed.specs.Cases.{pick_by, pick_unless, by_count}
-use Rattle.wellformed.specs.Fit.{Fits, step_fit}
+use Rattle.wellformed.specs.Fit.{Fits}
+use Rattle.wellformed.proofs.Fit.{step_fit}
 use Rattle.laws.specs.Head.{head_pages, head_count, count_is}
 
 -- an event within its limits: outcome 0 to 5, "collisions (16 with outcome 1, else 0 to 15), deferral (0, 1 deferred, 2 excessive)"

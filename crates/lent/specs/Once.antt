@@ -5,7 +5,7 @@ use Rattle.rules.specs.Registers as rules
 use Rattle.state.specs.declared.Width.{Width}
 use Rattle.state.specs.declared.Width.TheVariants as width
 use Rattle.state.specs.Meaning.{width_of}
-use Rattle.state.specs.Only.{started_once}
+use Rattle.state.proofs.Only.{started_once}
 use Rattle.lent.specs.Lent.{StartsPart}
 
 -- A width is known from that of the rules.

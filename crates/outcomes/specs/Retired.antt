@@ -6,7 +6,7 @@ use Rattle.rules.specs.Mmu.{give_back}
 use Rattle.rules.specs.Send.{retire}
 use Rattle.state.specs.View.{figures, view_of}
 use Rattle.state.specs.Promise.{QueuesIn, SoundOf}
-use Rattle.state.specs.Only.{one_state}
+use Rattle.state.proofs.Only.{one_state}
 use Rattle.pages.specs.Pages.{AltersOf, alters_sound}
 
 -- packet k is released, or joins completion

@@ -8,7 +8,7 @@ use Rattle.rules.specs.Fields.{set_tx, in_sending, in_registers, in_pool}
 use Rattle.rules.specs.Send.{Send, outcome_bits, any_at15, tally, new_ecr}
 use Rattle.state.specs.View.{word, figures, view_of, Kept}
 use Rattle.state.specs.Promise.{QueuesIn}
-use Rattle.state.specs.Only.{words_once}
+use Rattle.state.proofs.Only.{words_once}
 use Rattle.pool.specs.Once.{figures_once, bytes_once}
 
 -- the rules' `sent_registers`, by the bits of the address that is sent to

@@ -5,7 +5,8 @@ use Rattle.rules.specs.Bits.{word_of}
 use Rattle.rules.specs.Chip.{Layout, Chip, free_for}
 use Rattle.state.specs.View.{word, figures, with_mir, lists_of, view_of}
 use Rattle.state.specs.Pages.{numbers_length}
-use Rattle.state.specs.Only.{words_once, numbers_known}
+use Rattle.state.specs.Only.{numbers_known}
+use Rattle.state.proofs.Only.{words_once}
 use Rattle.pages.specs.Pages.{RepagesOf, AltersOf}
 
 -- MIR, where the pages are the same

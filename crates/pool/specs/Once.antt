@@ -6,7 +6,8 @@ use Rattle.sets.specs.Members.{set_of}
 use Rattle.state.specs.View.{word, figures, pool_of}
 use Rattle.state.specs.Promise.{QueuesIn}
 use Rattle.state.specs.Stores.{Recounts}
-use Rattle.state.specs.Only.{words_once, padded, queues_known, one_state}
+use Rattle.state.specs.Only.{padded, queues_known}
+use Rattle.state.proofs.Only.{words_once, one_state}
 use Rattle.pool.specs.Queues.{Rejoins, EmptiedOf}
 
 -- Figures that are right for queues, and the queues' bytes, are known from the pool and MIR.

@@ -5,7 +5,7 @@ use Rattle.rules.specs.Chip.{Layout, paged, reset_registers}
 use Rattle.rules.specs.Registers.{soft_reset}
 use Rattle.state.specs.View.{registers_in, figures, view_of, Kept}
 use Rattle.state.specs.Promise.{SoundOf}
-use Rattle.state.specs.Only.{words_once}
+use Rattle.state.proofs.Only.{words_once}
 
 -- 0 in the place of every word but the three of the station address
 abbrev pub zero_but : List ℕ → List ℕ

@@ -11,7 +11,8 @@ use Rattle.state.specs.declared.Answer.{Answer}
 use Rattle.state.specs.Meaning.{reply_of}
 use Rattle.state.specs.View.{view_of}
 use Rattle.state.specs.Promise.{SoundOf}
-use Rattle.state.specs.Only.{one_state, one_answer}
+use Rattle.state.specs.Only.{one_answer}
+use Rattle.state.proofs.Only.{one_state}
 
 -- the answer, with state, memory and output after it, is what the turn says
 pub record SendsOf (l : Layout) (t : Turn) (a : Answer) (w s q mem out : List ℕ) : Type 0 where

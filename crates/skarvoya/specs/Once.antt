@@ -10,7 +10,7 @@ use Rattle.rules.specs.Bench.{Bench, Answered}
 use Rattle.state.specs.declared.Answer.{Answer}
 use Rattle.state.specs.Meaning.{reply_of}
 use Rattle.state.specs.Entry.{size_in, Holds}
-use Rattle.state.specs.Only.{one_record, only, started_once}
+use Rattle.state.proofs.Only.{one_record, only, started_once}
 use Rattle.state.specs.Decided.{holds?}
 use Rattle.turns.specs.Once.{same_place, Same}
 use Rattle.lent.specs.Lent.{told, Sized, LongAs}

@@ -7,11 +7,7 @@ pub mod SameCounts
 pub mod Packets
 -- Each input on two chips beside each other.
 pub mod Beside
-pub mod BesideCommands
 pub mod BesideData
-pub mod BesideRegisters
-pub mod BesideFrames
-pub mod BesideSends
 -- The promise, from power-up on; why it asks what it asks, and a history that it is about.
 pub mod StripsAlike
 pub mod StripsNeeded

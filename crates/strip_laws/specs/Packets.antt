@@ -114,37 +114,7 @@ module _ (k a : ℕ) (put : List ℕ) where
             let low = p.within j x s old in
             miss others bytes o room' j x none (omega (arith, low, p.counts j)) ∙ p.same j x s old ∙ sym (miss ls memory i room j x none low)
 
--- what starts anew was written, and is not of that packet
-anew_decides : (k : ℕ) (m : Marks) (j x : ℕ) → Decides (anew k m j x) ((m j x ≡ true) × (eqb j k ≡ false))
-unfolding anew
-anew_decides k m j x = is_true (m j x) and is_false (eqb j k)
-
 module _ {m : Marks} {ls : List (List ℕ)} {memory : List ℕ} {others : List (List ℕ)} {bytes : List ℕ} (p : Packets m ls memory others bytes) where
-  -- Packet k has other pages: nothing is written of it, or it has none.
-  repaged : (k : ℕ) → k < length ls → k < length others → (l other : List ℕ) → length other ≡ length l → (m' : Marks) → ((j x : ℕ) → m' j x ≡ true → m j x ≡ true)
-      → ((x : ℕ) → some? l ≡ true → m' k x ≡ true → ⊥) → Packets m' (set ls k l) memory (set others k other) bytes
-  repaged k h h' l other long m' keep fresh = record {
-    counts = set_alike ls others p.counts k h h' l other long;
-    within = λ j x s e. ⊎_elim (λ u. absurd (gone j x u s e)) (λ u. rw u.1 (p.within j x (sym (ap some? u.1) ∙ s) (keep j x e))) (at_set ls k l h j);
-    same = λ j x s e.
-        ⊎_elim (λ u. absurd (gone j x u s e))
-        (λ u. ⊎_elim (λ v. absurd (u.0 v.0)) (λ v. rw (u.1, v.1) (p.same j x (sym (ap some? u.1) ∙ s) (keep j x e))) (at_set others k other h' j)) (at_set ls k l h j);
-    octets = p.octets;
-    octets' = p.octets';
-  }
-    where
-      gone : (j x : ℕ) → (j ≡ k) × (get_or (set ls k l) j [] ≡ l) → some? (get_or (set ls k l) j []) ≡ true → m' j x ≡ true → ⊥
-      gone j x u s e = fresh x (sym (ap some? u.1) ∙ s) (sym (ap (λ (i : ℕ). m' i x) u.0) ∙ e)
-
-  -- It gives its pages back; it is granted some, and starts anew.
-  pub freed_in_both : (k : ℕ) → k < length ls → k < length others → Packets m (set ls k []) memory (set others k []) bytes
-  unfolding some?
-  freed_in_both k h h' = repaged k h h' [] [] refl m (λ j x e. e) (λ x s e. true≢false (sym s))
-
-  pub granted_in_both : (k : ℕ) → k < length ls → k < length others → (l other : List ℕ) → length other ≡ length l → Packets (anew k m) (set ls k l) memory (set others k other) bytes
-  granted_in_both k h h' l other long =
-      repaged k h h' l other long (anew k m) (λ j x e. ((anew_decides k m j x).sound e).0) (λ x s e. true≢false (sym ((eq_decides k k).complete refl) ∙ ((anew_decides k m k x).sound e).1))
-
   -- No packet has pages.
   pub emptied_in_both : (n : ℕ) → Packets m (replicate n []) memory (replicate n []) bytes
   unfolding some?

@@ -21,74 +21,41 @@ use Rattle.wellformed.specs.Fit.{below_decides}
 use Rattle.laws.specs.Broadcast.{broadcasting}
 use Rattle.laws.specs.Head.{head_count, head_control}
 use Rattle.strip_laws.specs.Written.{Marks, unwritten, marked, anew, command_marks, write_marks, access_marks, frame_marks, send_marks, input_marks, written, written_by, ReadsWritten, Minds, OnlyWritten}
-use Rattle.strip_laws.specs.StripsAlike.{StripsBeside, strips_beside}
+use Rattle.strip_laws.specs.StripsAlike.{StripsBeside}
 
 -- are w bytes of packet k, from address a on, written
 unfoldable pub all_marked : ℕ → ℕ → ℕ → Marks → Bool
 all_marked zero a k m = true
 all_marked (suc w) a k m = m k a && all_marked w (suc a) k m
 
-all_marked_lem : (w a k : ℕ) (m : Marks) → all_marked w a k m ≡ true → (x : ℕ) → a ≤ x → x < a + w → m k x ≡ true
-unfolding all_marked
-all_marked_lem zero a k m t x h i = absurd (omega arith)
-all_marked_lem (suc w) a k m t x h i =
-    let p = (is_true (m k a) and is_true (all_marked w (suc a) k m)).sound t in
-    go p.0 (all_marked_lem w (suc a) k m p.1 x) (ℕ_discrete x a)
-  where
-    go : m k a ≡ true → (suc a ≤ x → x < suc a + w → m k x ≡ true) → Dec (x ≡ a) → m k x ≡ true
-    go first later (yes e) = ap (m k) e ∙ first
-    go first later (no d) = later (omega arith) (omega arith)
-
 -- is all that a send may read of the head of TX written: the count, the control byte and the data
-unfoldable reads_marked : Chip → Marks → Bool
+unfoldable pub reads_marked : Chip → Marks → Bool
 reads_marked c m =
     let k = get_or c.pool.tx 0 0 in
     m k 2 && m k 3 && m k (head_count c - 1) && all_marked (send_length (head_count c) (head_control c)) 4 k m
 
-reads_marked_lem : (c : Chip) (m : Marks) (t : Turn) → reads_marked c m ≡ true → ReadsWritten c m t
-unfolding reads_marked
-reads_marked_lem c m t e =
-    let k = get_or c.pool.tx 0 0 in
-    let long = send_length (head_count c) (head_control c) in
-    let p = (is_true (m k 2) and is_true (m k 3) and is_true (m k (head_count c - 1)) and is_true (all_marked long 4 k m)).sound e in
-    record { low = p.0.0.0; high = p.0.0.1; control = λ d. p.0.1; bytes = λ d. all_marked_lem long 4 k m p.1 }
-
-unfoldable minded : Input → Chip → Marks → Bool
+unfoldable pub minded : Input → Chip → Marks → Bool
 minded (driver a) c m = true
 minded (frame f) c m = all_below 256 f.bytes
 minded (sent s out) c m = reads_marked c m
 minded (link x) c m = true
 
-minded_sound : (n : ℕ) (i : Input) (c : Chip) (m : Marks) → minded i c m ≡ true → Minds n i c m
-unfolding minded
-minded_sound n (driver a) c m e = tt
-minded_sound n (frame f) c m e = (below_decides 256 f.bytes).sound e
-minded_sound n (sent s out) c m e = λ r. reads_marked_lem c m (step_of n (sent s out) c) e
-minded_sound n (link x) c m e = tt
-
-unfoldable all_minded : ℕ → List Input → Chip → Marks → Bool
+unfoldable pub all_minded : ℕ → List Input → Chip → Marks → Bool
 all_minded n [] c m = true
 all_minded n (i ∷ is) c m = minded i c m && all_minded n is (step_of n i c).chip (written n i c m)
-
-all_minded_lem : (n : ℕ) (inputs : List Input) (c : Chip) (m : Marks) → all_minded n inputs c m ≡ true → OnlyWritten n inputs c m
-unfolding all_minded
-all_minded_lem n [] c m e = tt
-all_minded_lem n (i ∷ is) c m e =
-    let p = (is_true (minded i c m) and is_true (all_minded n is (step_of n i c).chip (written n i c m))).sound e in
-    (minded_sound n i c m p.0, all_minded_lem n is (step_of n i c).chip (written n i c m) p.1)
 
 -- auto release, TXENA and RXEN
 abbrev starts : List Access
 starts = write byte 0xe 1 ∷ write word 0xc 0x0800 ∷ write byte 0xe 0 ∷ write byte 0 1 ∷ write word 4 0x0100 ∷ []
 
 -- a page is allocated; packet 0 gets the count 12, six bytes of data and a control word, and joins TX
-abbrev loads : List Access
+abbrev pub loads : List Access
 loads =
     write byte 0xe 2 ∷ write byte 0 0x20 ∷ write byte 2 0 ∷ write word 6 0x4002 ∷ write word 8 12 ∷ write word 8 0x1111 ∷ write word 8 0x2222 ∷ write word 8 0x3333 ∷ write word 8 0
     ∷ write byte 0 0xc0 ∷ []
 
 -- status, count and the first two bytes of the RX head are read, and it is removed and released
-abbrev drains : List Access
+abbrev pub drains : List Access
 drains = write word 6 0xe000 ∷ read word 8 ∷ read word 8 ∷ read word 8 ∷ write byte 0 0x80 ∷ []
 
 -- up to the send, to its end, and to the frame
@@ -104,10 +71,6 @@ to_frame = to_sent ++ (frame broadcasting ∷ [])
 abbrev pub used : List Input
 used = to_frame ++ map driver drains
 
-used_test : all_minded lan91c96 used (powered paged lan91c96) unwritten ≡ true
-unfolding bit set_bit clear_bit flag low_byte high_byte word_of word_at member some? owned unless free_below first_empty above ascends all_below apart none_owned pages_good laid_good queue_good queues_good numbers_good request_good formed fit place get_bytes put_bytes decode perform due settle address advance next if_packet against odd_fixed past if_open value_of read_data write_data register_at misplaced lanes_at taken merged width bytes_of head_of new_rcr write_rcr forgotten write_tcr low_only read_register write_register access crc_bit crc_bits crc_from crc hash mirror fcs_word four_bytes same_bytes bad_crc broadcast group in_table accepted data_length count_of pages_for needed value_for dropped judge group_bits frame_status trailer image after arrive in_limits byte_count send_length appends padded ended on_wire control_byte put_out good failure_bit collision_bits outcome_bits address_bits nibble counted tally nibbles any_at15 new_ecr new_ephsr auto_release send_head if_usable if_sendable finish serve step_of all_marked reads_marked minded all_minded marked anew command_marks write_marks access_marks frame_marks send_marks input_marks written
-used_test = refl
-
 unfoldable pub used_replies : List Reply
 unfolding bit set_bit clear_bit flag low_byte high_byte word_of word_at member some? owned unless free_below first_empty above ascends all_below apart none_owned pages_good laid_good queue_good queues_good numbers_good request_good formed fit place get_bytes put_bytes decode perform due settle address advance next if_packet against odd_fixed past if_open value_of read_data write_data register_at misplaced lanes_at taken merged width bytes_of head_of new_rcr write_rcr forgotten write_tcr low_only read_register write_register access crc_bit crc_bits crc_from crc hash mirror fcs_word four_bytes same_bytes bad_crc broadcast group in_table accepted data_length count_of pages_for needed value_for dropped judge group_bits frame_status trailer image after arrive in_limits byte_count send_length appends padded ended on_wire control_byte put_out good failure_bit collision_bits outcome_bits address_bits nibble counted tally nibbles any_at15 new_ecr new_ephsr auto_release send_head if_usable if_sendable finish serve step_of run_of
 used_replies = (run_of lan91c96 used (powered paged lan91c96)).replies
@@ -121,10 +84,6 @@ pub used_written : (written_up_to 1 to_send ≡ false) × (written_up_to 2 to_se
 unfolding bit set_bit clear_bit flag low_byte high_byte word_of word_at member some? owned unless free_below first_empty above ascends all_below apart none_owned pages_good laid_good queue_good queues_good numbers_good request_good formed fit place get_bytes put_bytes decode perform due settle address advance next if_packet against odd_fixed past if_open value_of read_data write_data register_at misplaced lanes_at taken merged width bytes_of head_of new_rcr write_rcr forgotten write_tcr low_only read_register write_register access crc_bit crc_bits crc_from crc hash mirror fcs_word four_bytes same_bytes bad_crc broadcast group in_table accepted data_length count_of pages_for needed value_for dropped judge group_bits frame_status trailer image after arrive in_limits byte_count send_length appends padded ended on_wire control_byte put_out good failure_bit collision_bits outcome_bits address_bits nibble counted tally nibbles any_at15 new_ecr new_ephsr auto_release send_head if_usable if_sendable finish serve step_of all_marked reads_marked minded all_minded marked anew command_marks write_marks access_marks frame_marks send_marks input_marks written
 used_written = (refl, refl, refl, refl)
 
--- Its send reads only written bytes,
-pub used_minds : OnlyWritten lan91c96 used (powered paged lan91c96) unwritten
-used_minds = all_minded_lem lan91c96 used (powered paged lan91c96) unwritten used_test
-
 abbrev answer : ℕ → Reply
 answer v = record { number = 0; value = v }
 
@@ -132,7 +91,3 @@ answer v = record { number = 0; value = v }
 pub used_done : used_replies ≡ replicate 15 done ++ (answer 10 ∷ done ∷ done ∷ answer 0x4000 ∷ answer 70 ∷ answer 0xffff ∷ done ∷ [])
 unfolding used_replies
 used_done = refl
-
--- and so the chip of strips does the same.
-pub used_alike : StripsBeside lan91c96 used
-used_alike = strips_beside lan91c96 used used_minds

@@ -5,7 +5,8 @@ use Rattle.rules.specs.Chip.{Layout, paged, powered}
 use Rattle.rules.specs.Bench as rules
 use Rattle.state.specs.declared.Answer.{Answer}
 use Rattle.state.specs.View.{view_of}
-use Rattle.state.specs.Only.{one_state, one_answer}
+use Rattle.state.specs.Only.{one_answer}
+use Rattle.state.proofs.Only.{one_state}
 use Rattle.records.specs.Gathers.{holding}
 use Rattle.turns.specs.Turns.{HeldOf, TurnsOf, Gathered}
 

@@ -192,17 +192,3 @@ formed_decides n c =
 -- what refusal 16 asks of a chip with n packets
 abbrev pub Fits : ℕ → Chip → Type 0
 Fits n c = FormedAt n c × (length c.memory ≡ 256 * page_numbers c.pool.layout n)
-
-pub fit_decides : (n : ℕ) (c : Chip) → Decides (fit n c) (Fits n c)
-unfolding fit
-fit_decides n c = agrees (eq_decides (length c.memory) (256 * page_numbers c.pool.layout n) and formed_decides n c) (λ w. (w.1, w.0)) (λ w. (w.1, w.0))
-
--- So a step on such a chip goes by its input, and on any other is refusal 16.
-module _ (n : ℕ) (i : Input) (c : Chip) where
-  pub step_fit : Fits n c → step_of n i c ≡ serve i c
-  unfolding step_of
-  step_fit w = rw ((fit_decides n c).complete w)
-
-  pub step_unfit : (Fits n c → ⊥) → step_of n i c ≡ refused 16 c (lent i)
-  unfolding step_of
-  step_unfit h = rw (if_not (fit n c) (λ t. h ((fit_decides n c).sound t)))

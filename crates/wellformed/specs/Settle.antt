@@ -37,7 +37,7 @@ unfolding settle
 settle_later c short = rw (if_not (due c) (λ e. omega (arith, short, ((due_decides c).sound e).1)))
 
 -- the numbers where nothing waits
-abbrev unasked : Numbers → Numbers
+abbrev pub unasked : Numbers → Numbers
 unasked r = record { bank = r.bank; packet = r.packet; result = r.result; waiting = 0 }
 
 -- What waits is for at most 8 pages.
@@ -48,23 +48,3 @@ request_few r g = ⊎_elim (λ e. omega (arith, e)) (λ p. p.few) g
 module _ {n : ℕ} (c : Chip) (w : Clauses n (unasked c.regs.numbers) c.pool) {before : ℕ} (asked : GoodRequest before c.regs.numbers) where
   abbrev waiting : ℕ
   waiting = c.regs.numbers.waiting
-
-  granted : 0 < waiting → waiting ≤ length (free c) → FormedAt n (grant waiting c)
-  granted some enough =
-      beside (given w waiting (omega (arith, some)) (request_few c.regs.numbers asked) enough) (with_result w.numbers _ (inl (number_free w (omega (arith, some, enough)))) 0) (inl refl)
-
-  waits_on : due c ≡ false → FormedAt n c
-  waits_on e =
-      beside w (with_result w.numbers c.regs.numbers.result w.numbers.result_good waiting)
-      (⊎_elim (λ none. inl none) (λ p. inr (record { few = p.few; short = omega (arith, not_due c e (omega (arith, p.short))); unanswered = p.unanswered })) asked)
-
-  pub settled : FormedAt n (settle c)
-  settled = by_settle (FormedAt n) c (λ e. let d = (due_decides c).sound e in granted d.0 d.1) waits_on
-
--- A packet in neither queue gives its pages back.
-pub given_back : (n : ℕ) (c : Chip) → Fits n c → (k : ℕ) → k < n → (member k c.pool.rx ≡ true → ⊥) → (member k c.pool.tx ≡ true → ⊥) → Fits n (give_back k c)
-given_back n c w k h r t =
-    let none = beside w.0 (with_result w.0.numbers c.regs.numbers.result w.0.numbers.result_good 0) (inl refl) in (
-      settled (freed k c) (made_free none refl k h r t) w.0.request,
-      by_settle (λ x. length x.memory ≡ 256 * page_numbers x.pool.layout n) (freed k c) (λ e. w.1) (λ e. w.1),
-    )

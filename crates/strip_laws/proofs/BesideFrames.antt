@@ -15,8 +15,9 @@ use Rattle.wellformed.specs.Frames.{data_short, needs_one, needs_seven, storable
 use Rattle.laws.specs.Reception.{image_fits}
 use Rattle.strip_laws.specs.Written.{Marks, marked, anew, frame_marks}
 use Rattle.strip_laws.specs.Packets.{Packets, put_in_both}
-use Rattle.strip_laws.specs.Beside.{on, Follows, stays, Effects, same_answer, pick_both, as_many_free, next_alike, granted_lists_alike, Beside, both_good}
-use Rattle.strip_laws.specs.BesideCommands.{as_is}
+use Rattle.strip_laws.specs.Beside.{on, Follows, stays, Effects, same_answer, pick_both, Beside, both_good}
+use Rattle.strip_laws.proofs.Beside.{as_many_free, next_alike, granted_lists_alike}
+use Rattle.strip_laws.proofs.BesideCommands.{as_is}
 
 -- a list is of bytes
 abbrev Small : List ℕ → Type 0

@@ -9,8 +9,9 @@ use Rattle.rules.specs.Step.{Input, driver, frame, link, lent, serve, step_of, r
 use Rattle.laws.specs.DataAccesses.{data_read}
 use Rattle.blind_laws.specs.Alike.{InputAlike, accessed, linked, finished, arrived, InputsAlike, none, next, SendAlike, SendsAlike, ButBytes, TurnsAlike, RunsAlike, StepsAlike}
 use Rattle.blind_laws.specs.BlindAccesses.{is_holding, Effects, same_access, same_plug}
-use Rattle.blind_laws.specs.BlindFrames.{same_arrive}
-use Rattle.blind_laws.specs.BlindSends.{Sends, same_finish}
+use Rattle.blind_laws.proofs.BlindFrames.{same_arrive}
+use Rattle.blind_laws.specs.BlindSends.{Sends}
+use Rattle.blind_laws.proofs.BlindSends.{same_finish}
 
 -- The line is of registers and queues.
 same_line : {c d : Chip} → ButBytes c d → line_up d ≡ line_up c

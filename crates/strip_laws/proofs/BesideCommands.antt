@@ -16,7 +16,8 @@ use Rattle.wellformed.specs.Keeps.{Valid}
 use Rattle.strip_laws.specs.Written.{Marks, anew, settled_marks, command_marks}
 use Rattle.strip_laws.specs.SameCounts.{allocated_alike}
 use Rattle.strip_laws.specs.Packets.{Packets, emptied_in_both}
-use Rattle.strip_laws.specs.Beside.{on, Follows, Effects, stays, same_answer, marks_by, pick_both, unless_both, as_many_packets, as_many_free, grants_alike, gives_back_alike, Beside, both_good}
+use Rattle.strip_laws.specs.Beside.{on, Follows, Effects, stays, same_answer, marks_by, pick_both, unless_both, Beside, both_good}
+use Rattle.strip_laws.proofs.Beside.{as_many_packets, as_many_free, grants_alike, gives_back_alike}
 
 module _ {n : ℕ} {l : Layout} {m : Marks} {c : Chip} {ls : List (List ℕ)} {bytes : List ℕ} (b : Beside n l m c ls bytes) where
   abbrev other : Chip

@@ -18,12 +18,13 @@ use Rattle.lists.specs.Facts.{member_first, head_and_rest}
 use Rattle.wellformed.specs.Cases.{pick}
 use Rattle.laws.specs.Head.{byte_at, head_count, head_control, count_at, count_is}
 use Rattle.laws.specs.Sendable.{Reaches, within_decides, sendable_done}
-use Rattle.laws.specs.PutOut.{control_is}
+use Rattle.laws.proofs.PutOut.{control_is}
 use Rattle.strip_laws.specs.Written.{Marks, marked, settled_marks, send_marks, ReadsWritten}
 use Rattle.laws.specs.Placed.{get_alike}
 use Rattle.strip_laws.specs.Packets.{Packets}
-use Rattle.strip_laws.specs.Beside.{on, Follows, stays, same_answer, marks_by, Turns, pick_both, unless_both, Good, as_many_packets, gives_back_alike, Beside, puts_alike, both_good}
-use Rattle.strip_laws.specs.BesideCommands.{allocated_small}
+use Rattle.strip_laws.specs.Beside.{on, Follows, stays, same_answer, marks_by, Turns, pick_both, unless_both, Good, Beside, puts_alike, both_good}
+use Rattle.strip_laws.proofs.Beside.{as_many_packets, gives_back_alike}
+use Rattle.strip_laws.proofs.BesideCommands.{allocated_small}
 
 -- a send of packet k, with these bytes put out and this address
 abbrev sent_with : Send → ℕ → List ℕ → Chip → List ℕ → List ℕ → List ℕ → Turn

@@ -16,9 +16,11 @@ use Rattle.wellformed.specs.Keeps.{decode_valid}
 use Rattle.strip_laws.specs.Written.{Marks, marked, write_marks, access_marks}
 use Rattle.laws.specs.DataAccesses.{meant, data_in, data_read}
 use Rattle.strip_laws.specs.Packets.{emptied_in_both}
-use Rattle.strip_laws.specs.Beside.{on, Follows, stays, Effects, pick_both, as_many_packets, as_many_free, Beside, both_good}
-use Rattle.strip_laws.specs.BesideCommands.{as_is, both_did, same_perform}
-use Rattle.strip_laws.specs.BesideData.{width_written, width_few, bytes_written, same_read_data, same_write_data}
+use Rattle.strip_laws.specs.Beside.{on, Follows, stays, Effects, pick_both, Beside, both_good}
+use Rattle.strip_laws.proofs.Beside.{as_many_packets, as_many_free}
+use Rattle.strip_laws.proofs.BesideCommands.{as_is, both_did, same_perform}
+use Rattle.strip_laws.specs.BesideData.{width_written, width_few, bytes_written}
+use Rattle.strip_laws.proofs.BesideData.{same_read_data, same_write_data}
 
 module _ {n : ℕ} {l : Layout} {m : Marks} {c : Chip} {ls : List (List ℕ)} {bytes : List ℕ} (b : Beside n l m c ls bytes) where
   abbrev other : Chip
