@@ -10,17 +10,13 @@ use Rattle.outcomes.proofs.Facts.{or_false, latch_set}
 use Rattle.outcomes.proofs.after.new_latches.Statement.{statement}
 use Rattle.outcomes.proofs.after.new_latches.Tie as tie
 
-returns : tie.Need-returns-then-tx-ne1
-returns c =
-    let a = c.args in
-    (c.requires, (or_false (bit 2 a.latches) (ne_eqb a.tx 1 c.if-tx-ne1.true), refl))
-
-returns-2 : tie.Need-returns
-returns-2 c =
-    let s = c in
-    let x = s.args.latches in
-    let e = c.with_set.ensures in
-    rw e (latch_set x s.requires, (bit_set 2 x ∙ sym (or_true (bit 2 x) (eq-eqb _ _ c.if-tx-ne1.false)), bit_set_other 2 x 4 (λ n. absurd (omega arith))))
-
+-- No fact is named by the test's text: another test has other facts, and these then fail.
 pub new_latches_spec : {M : Type 1} → statement M
-new_latches_spec = tie.close (tie.spec returns (λ c κs. search rules) returns-2)
+new_latches_spec =
+    tie.close
+    (tie.spec
+    (λ c. (c.requires, (or_false (bit 2 c.args.latches) (ne_eqb c.args.tx 1 (λ e. omega (arith, e))), refl)))
+    (λ c κs. search rules)
+    (λ c.
+    let x = c.args.latches in
+    rw c.with_set.ensures (latch_set x c.requires, (bit_set 2 x ∙ sym (or_true (bit 2 x) (eq-eqb c.args.tx 1 (omega arith))), bit_set_other 2 x 4 (λ n. absurd (omega arith))))))

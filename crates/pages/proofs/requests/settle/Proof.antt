@@ -17,11 +17,6 @@ use Rattle.pages.proofs.requests.settle.Tie as tie
 counted : (s : tie.Start) → let ls = map pages_of s.args.sets.now in word s.args.words.now 4 / 256 ≡ length (free_for paged ls)
 counted s = free_told s.args.words.now s.args.sets.now s.requires.1
 
-returns : tie.Need-returns-then-need-eq0
-returns c =
-    let s = c in
-    record { chip = λ q mem. sym (settle_none (view s.args.words.now s.args.sets.now q mem) c.if-need-eq0.true); still = refl; kept = s.requires.0; sets = s.requires.1 }
-
 returns-2 : tie.Need-returns-then-free_count-need
 returns-2 c =
     let s = c.before.before.before.before.before.before in
@@ -36,22 +31,23 @@ allocate-requires : tie.Need-allocate-requires
 allocate-requires c κs =
     let s = c in
     let told = free_told s.args.words.now s.args.sets.now s.requires.1 in
-    (s.requires.0, s.requires.1, s.requires.2, omega (arith, c.if-need-eq0.false), s.requires.3, omega (arith, c.if-free_count-need.false, c.free_count.ensures, told))
+    (s.requires.0, s.requires.1, s.requires.2, omega arith, s.requires.3, omega (arith, c.if-free_count-need.false, c.free_count.ensures, told))
 
 returns-3 : tie.Need-returns
 returns-3 c =
     let s = c.before.before.before.before.before.before.before.before.before.before.before.before.before in
     alters_as c.allocate.ensures
-    (λ q mem. sym (settle_now (view s.args.words.now s.args.sets.now q mem) (omega (arith, c.if-need-eq0.false))
+    (λ q mem. sym (settle_now (view s.args.words.now s.args.sets.now q mem) (omega arith)
     (omega (arith, c.if-free_count-need.false, c.free_count.ensures, counted s))))
 
+-- The first test's facts are not named by its text: another test has other facts, and these then fail.
 pub settle_spec : {M : Type 1} → statement M
 settle_spec =
     tie.close
     (tie.spec
     (λ c. search rules)
     (λ c. search rules)
-    returns
+    (λ c. record { chip = λ q mem. sym (settle_none (view c.args.words.now c.args.sets.now q mem) (omega arith)); still = refl; kept = c.requires.0; sets = c.requires.1 })
     (λ c κs. search rules)
     (λ c. search rules)
     returns-2

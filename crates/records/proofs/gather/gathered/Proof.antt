@@ -19,17 +19,12 @@ decreases-loop wire₀ have bytes count n i₀ wire i = n - i
 returns : tie.Need-returns-then-n-lt1 invariant-loop decreases-loop
 returns c = let s = c in keeps s.args.wire.now s.args.have s.args.bytes.now s.args.count s.requires.1 (too_few _ _ _ c.if-n-lt1.true)
 
-returns-2 : tie.Need-returns-then-n-gt6 invariant-loop decreases-loop
-returns-2 c =
-    let s = c in
-    keeps s.args.wire.now s.args.have s.args.bytes.now s.args.count s.requires.1 (too_many _ _ _ c.if-n-lt1.false c.if-n-gt6.true)
-
 returns-3 : tie.Need-returns-then-have-n-gt2048 invariant-loop decreases-loop
 returns-3 c =
     let s = c in
     let l : length (take s.args.have s.args.wire.now) ≡ s.args.have = length-take-le _ _ (omega (arith, s.requires.0, s.requires.1)) in
     keeps s.args.wire.now s.args.have s.args.bytes.now s.args.count s.requires.1
-    (too_long_lem _ _ _ c.if-n-lt1.false c.if-n-gt6.false (omega (arith, l, c.if-have-n-gt2048.true)))
+    (too_long_lem _ _ _ c.if-n-lt1.false (omega arith) (omega (arith, l, c.if-have-n-gt2048.true)))
 
 loop-holds : tie.Need-loop-i-init invariant-loop decreases-loop
 loop-holds c = let s = c in (search rules, paste-zero s.args.wire.now s.args.have (drop 2 s.args.bytes.now), refl)
@@ -42,7 +37,7 @@ loop-again c =
     let i = b.loop-i.i in
     let r = drop 2 s.args.bytes.now in
     let h : s.args.have + i < length s.args.wire.now = omega (arith, c.loop-i-test.true, b.if-have-n-gt2048.false, s.requires.0) in
-    let k : i < length r = omega (arith, s.requires.2, length-drop 2 s.args.bytes.now, c.loop-i-test.true, b.if-n-gt6.false) in (
+    let k : i < length r = omega (arith, s.requires.2, length-drop 2 s.args.bytes.now, c.loop-i-test.true) in (
       search rules,
       ap (λ (l : List ℕ). set l (s.args.have + i) (get_or s.args.bytes.now (2 + i) 0)) v.1
           ∙ ap (set (paste s.args.wire.now s.args.have r i) (s.args.have + i)) (sym (get_or-drop 2 s.args.bytes.now i 0))
@@ -61,9 +56,10 @@ returns-4 c =
     let v = b.loop-i.invariant in
     let e : b.loop-i.i ≡ s.args.count = omega (arith, v.0, c.loop-i-test.false) in
     grows s.args.wire.now s.args.have s.args.bytes.now s.args.count s.requires.0 (search rules)
-    b.if-n-lt1.false b.if-n-gt6.false b.if-have-n-gt2048.false _
+    b.if-n-lt1.false (omega arith) b.if-have-n-gt2048.false _
     (v.1 ∙ ap (paste s.args.wire.now s.args.have (drop 2 s.args.bytes.now)) e)
 
+-- The second test's facts are not named by its text: another test has other facts, and these then fail.
 pub gathered_spec : {M : Type 1} → statement M
 gathered_spec =
     tie.close
@@ -71,7 +67,7 @@ gathered_spec =
     invariant-loop
     decreases-loop
     returns
-    returns-2
+    (λ c. keeps c.args.wire.now c.args.have c.args.bytes.now c.args.count c.requires.1 (too_many _ _ _ c.if-n-lt1.false (omega arith)))
     (λ c. search rules)
     returns-3
     loop-holds
