@@ -262,7 +262,7 @@ def read_promises():
 
 
 def is_theorem(text):
-    return re.fullmatch(r"\w+/specs/\w+\.[^\s.]+", text)
+    return re.fullmatch(r"\w+/(?:specs|proofs)/\w+\.[^\s.]+", text)
 
 
 def check_theorem(text):

@@ -5,7 +5,7 @@ pub mod Strips
 -- Packets of two chips that stay alike, whatever their layouts: how many pages each has, pages given back and granted, bytes put and read.
 pub mod SameCounts
 pub mod Packets
--- Each input on two chips beside each other.
+-- Each input on two chips beside each other; that the two answer alike is in proofs/.
 pub mod Beside
 pub mod BesideData
 -- The promise, from power-up on; why it asks what it asks, and a history that it is about.
