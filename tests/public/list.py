@@ -361,7 +361,7 @@ def table():
 def demands():
     """The three records, with the words before each."""
     text = open(DEMANDS, encoding="utf-8").read()
-    return "```\n" + text[text.index("-- Demand 1.") : text.index("pub demand1 :")].strip() + "\n```"
+    return "```\n" + text[text.index("-- Demand 1.") :].strip() + "\n```"
 
 
 def between(path, text, mark):

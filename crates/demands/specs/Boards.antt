@@ -97,26 +97,11 @@ module _ (l : Layout) where
     pub board : x.board ≡ b
     pub output : x.output ≡ lent i
 
-  pub serves_refused : (i : Input) (b : Board) (x : Left) → (Good b → ⊥) → Serves i b x → Refused16 i b x
-  serves_refused i b x bad a =
-      let r = a.broken bad in
-      record { reply = ap reply_of r.answer; board = λ j. record { words = r.words j; pages = r.pages j; queues = r.queues j; memory = r.memory j }; output = r.output }
-
   -- There is one result, on any board.
   pub serves_once : (i : Input) (b : Board) (x y : Left) → Serves i b x → Serves i b y → x ≡ y
   serves_once i b x y p q =
       let e = only i b.words b.pages b.queues b.memory p q in
       λ j. record { answer = e.0 j; board = record { words = e.1 j; pages = e.2 j; queues = e.3 j; memory = e.4 j }; output = e.5 j }
-
-  -- Inputs one after another, where the first board is not in order.
-  pub runs_refused : (is : List Input) (b : Board) (xs : List Left) → (Good b → ⊥) → Runs is b xs → (replies_of xs ≡ map (λ i. refusal 16) is) × (board_after b xs ≡ b)
-  runs_refused [] b [] bad r = (refl, refl)
-  runs_refused [] b (x ∷ xs) bad r = absurd r
-  runs_refused (i ∷ is) b [] bad r = absurd r
-  runs_refused (i ∷ is) b (x ∷ xs) bad r =
-      let s = serves_refused i b x bad r.0 in
-      let t = runs_refused is x.board xs (λ g. bad (subst Good s.board g)) r.1 in
-      (ap₂ ◌∷◌ s.reply t.0, t.1 ∙ s.board)
 
 module _ (n : ℕ) (l : Layout) where
   -- a board in order, of the part with n packets

@@ -6,5 +6,3 @@ pub mod BesideCode
 pub mod LinkOfCode
 pub mod BlindCode
 pub mod Demands
-pub mod Lan91c96
-pub mod Lan91c94

@@ -3,7 +3,7 @@ use Rattle.std.specs.Prelude.{refl}
 use Rattle.std.proofs.Common.{inl}
 use Rattle.rules.specs.Parts.{lan91c94, IsPart}
 use Rattle.demands.specs.Demands.{Demand1, Demand2, Demand3, BesidePages, FrameCheck, WhateverLink, PayloadBlind}
-use Rattle.demands.specs.Demands as proved
+use Rattle.demands.proofs.Demands as proved
 
 part : IsPart lan91c94
 part = inl refl

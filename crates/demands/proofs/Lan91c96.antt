@@ -3,7 +3,7 @@ use Rattle.std.specs.Prelude.{refl}
 use Rattle.std.proofs.Common.{inr}
 use Rattle.rules.specs.Parts.{lan91c96, IsPart}
 use Rattle.demands.specs.Demands.{Demand1, Demand2, Demand3, BesidePages, FrameCheck, WhateverLink, PayloadBlind}
-use Rattle.demands.specs.Demands as proved
+use Rattle.demands.proofs.Demands as proved
 
 part : IsPart lan91c96
 part = inr refl
