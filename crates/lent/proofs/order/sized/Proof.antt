@@ -9,11 +9,9 @@ use Rattle.lent.proofs.order.sized.Tie as tie
 returns : tie.Need-returns-then-words-ne32
 returns c = record { sound = λ e. absurd (true≢false (sym e)); complete = λ o. absurd (omega (arith, o.words, c.if-words-ne32.true)) }
 
-returns-2 : tie.Need-returns-then-sets-ne24
-returns-2 c = record { sound = λ e. absurd (true≢false (sym e)); complete = λ o. absurd (omega (arith, o.sets, c.if-sets-ne24.true)) }
-
 returns-3 : tie.Need-returns
-returns-3 c = record { sound = λ e. record { words = omega (arith, c.if-words-ne32.false); sets = omega (arith, c.if-sets-ne24.false); queues = eqb-true _ _ e }; complete = λ o. eq-eqb _ _ o.queues }
+returns-3 c = record { sound = λ e. record { words = omega (arith, c.if-words-ne32.false); sets = omega arith; queues = eqb-true _ _ e }; complete = λ o. eq-eqb _ _ o.queues }
 
+-- No fact of the second test is named by its text: another test has other facts, and these then fail.
 pub sized_spec : {M : Type 1} → statement M
-sized_spec = tie.close (tie.spec returns returns-2 returns-3)
+sized_spec = tie.close (tie.spec returns (λ c. record { sound = λ e. absurd (true≢false (sym e)); complete = λ o. absurd (omega (arith, o.sets)) }) returns-3)

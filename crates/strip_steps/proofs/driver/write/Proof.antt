@@ -7,10 +7,10 @@ use Prim.Native.Nat.{ℕ, ◌/◌}
 use native.Mathlib.Omega.{arith}
 use Rattle.rules.specs.Chip.{strips}
 use Rattle.rules.specs.Registers as rules
-use Rattle.rules.specs.Registers.{Register, misplaced, DATA, RCR, COMMAND, lanes_at, register_at, write_register, access}
+use Rattle.rules.specs.Registers.{Width, Register, misplaced, DATA, RCR, COMMAND, lanes_at, register_at, write_register, access}
 use Rattle.state.specs.declared.Answer.{Answer}
 use Rattle.state.specs.Meaning.{width_of}
-use Rattle.state.specs.View.{view_of}
+use Rattle.state.specs.View.{Kept, view_of}
 use Rattle.state.specs.Promise.{MakesOf}
 use Rattle.state.specs.Laws.{register_in}
 use Rattle.accesses.specs.Reach.{place_of, write_nowhere, write_there, makes_as, writes_data}
@@ -34,14 +34,17 @@ abbrev place : tie.Start → ℕ
 place s = place_of s.args.words.now s.args.offset
 
 -- what is promised of a register is promised of the access, where it stands there
+held : (words counts queues mem : List ℕ) (width : Width) (offset value : ℕ) → Kept words → misplaced width offset ≡ false → (r : Register) {a : Answer} {w n q m : List ℕ} → register_in (place_of words offset) ≡ r
+    → MakesOf strips (write_register r (lanes_at width offset) value (view_of strips words counts queues mem)) a w n q m
+    → MakesOf strips (access (rules.write width offset value) (view_of strips words counts queues mem)) a w n q m
+held words counts queues mem width offset value kept p r {a} {w} {n} {q} {m} x h =
+    write_there _ _ words counts queues mem kept _ p
+    (subst (λ (y : Register). MakesOf strips (write_register y (lanes_at width offset) value (view_of strips words counts queues mem)) a w n q m) (sym x) h)
+
 there : (e : tie.Else-misplaced) (r : Register) {a : Answer} {w n q m : List ℕ} → let s = start e in register_in (place s) ≡ r
     → MakesOf strips (write_register r (lanes_at (width_of s.args.width) s.args.offset) s.args.value (view_of strips s.args.words.now s.args.counts.now s.args.queues.now s.args.memory.now)) a w n q m
     → MakesOf strips (access (rules.write (width_of s.args.width) s.args.offset s.args.value) (view_of strips s.args.words.now s.args.counts.now s.args.queues.now s.args.memory.now)) a w n q m
-there e r {a} {w} {n} {q} {m} x p =
-    let s = start e in
-    let c = view_of strips s.args.words.now s.args.counts.now s.args.queues.now s.args.memory.now in
-    write_there _ _ s.args.words.now s.args.counts.now s.args.queues.now s.args.memory.now s.requires.0.sound.kept _ (placed e)
-    (subst (λ (y : Register). MakesOf strips (write_register y (lanes_at (width_of s.args.width) s.args.offset) s.args.value c) a w n q m) (sym x) p)
+there e r x p = let s = start e in held s.args.words.now s.args.counts.now s.args.queues.now s.args.memory.now _ s.args.offset s.args.value s.requires.0.sound.kept (placed e) r x p
 
 returns : tie.Need-returns-then-misplaced
 returns c = let s = c in write_nowhere _ _ _ s.requires.0.sound (sym c.misplaced.ensures ∙ c.if-misplaced.true)
@@ -59,11 +62,8 @@ returns-2 c =
 returns-3 : tie.Need-returns-in-16
 unfolding register_in register_at
 returns-3 c =
-    let r = c in
-    let m = c in
-    let d = c.before.before.before.before.before.before.before.before.before.before.before in
-    let e = else-at d in
-    there e COMMAND (sym (ap register_in d.place-at.ensures) ∙ ap register_in m.in-16.is) (r.write_command.ensures (start e).args.memory.now)
+    held c.args.words.now c.args.counts.now c.args.queues.now c.args.memory.now (width_of c.args.width) c.args.offset c.args.value c.requires.0.sound.kept (sym c.misplaced.ensures ∙ c.if-misplaced.false) COMMAND
+    (sym (ap register_in c.place-at.ensures) ∙ ap register_in c.in-16.is) (c.write_command.ensures c.args.memory.now)
 
 write-register-requires : tie.Need-write_register-requires
 write-register-requires c κs =
