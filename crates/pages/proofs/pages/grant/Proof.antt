@@ -17,7 +17,7 @@ use Rattle.sets.specs.Lists.{lists_length}
 use Rattle.state.specs.Pages.{free_sets}
 use Rattle.state.specs.Stores.{store_mir}
 use Rattle.pages.specs.Figures.{repaged}
-use Rattle.pages.proofs.Paged.{good_lists}
+use Rattle.pages.proofs.Granting.{good_lists}
 use Rattle.pages.proofs.pages.grant.Statement.{statement}
 use Rattle.pages.proofs.pages.grant.Tie as tie
 

@@ -14,7 +14,7 @@ use Rattle.sets.specs.Views.{pages_of}
 use Rattle.sets.specs.Lists.{list_at, lists_length}
 use Rattle.state.specs.Stores.{store_mir}
 use Rattle.pages.specs.Figures.{repaged}
-use Rattle.pages.proofs.Paged.{good_lists}
+use Rattle.pages.proofs.Granting.{good_lists}
 use Rattle.pages.proofs.pages.make_free.Statement.{statement}
 use Rattle.pages.proofs.pages.make_free.Tie as tie
 

@@ -1,6 +1,6 @@
 -- Page sets: their lists are good, and where so many pages are free, the lowest unallocated number may get them.
 use mathlib.Core.Path.{◌≡◌, refl}
-use mathlib.Core.List.{List}
+use mathlib.Core.List.{List, [], ◌∷◌}
 use Prim.Native.Nat.{ℕ, ◌≤◌}
 use native.Mathlib.Omega.{arith}
 use lib.ListN.{length}
@@ -22,3 +22,10 @@ grantable ls n good some short few = record {
   short = short;
   few = few;
 }
+
+-- the lowest number with no pages is at most their number
+pub first_within : (ls : List (List ℕ)) → first_empty ls ≤ length ls
+unfolding first_empty
+first_within [] = omega arith
+first_within ([] ∷ ls) = omega arith
+first_within ((p ∷ ps) ∷ ls) = omega (arith, first_within ls)
