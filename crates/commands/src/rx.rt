@@ -3,9 +3,10 @@ ghost use Rattle.std.specs.Prelude.{List, ℕ};
 ghost use Rattle.rules.specs.Chip.{Layout};
 ghost use Rattle.rules.specs.Mmu as rules;
 ghost use Rattle.state.specs.View.{figures, Kept};
-ghost use Rattle.state.specs.Promise.{QueuesIn, PagesIn, Ready};
-ghost use Rattle.commands.specs.Orders.{PerformsOf, Performs};
+ghost use Rattle.state.specs.Promise.{QueuesIn, PagesIn, ReadyOf};
+ghost use Rattle.commands.specs.Orders.{PerformsOf};
 
+use pages::Layout;
 use state::{Answer, RX_COUNT, Refusal};
 
 pub fn do_remove(words: &mut [u16], queues: &mut [u8]) -> Answer
@@ -19,14 +20,14 @@ pub fn do_remove(words: &mut [u16], queues: &mut [u8]) -> Answer
     Ok(0)
 }
 
-pub fn do_remove_and_release(words: &mut [u16], sets: &mut [u32], queues: &mut [u8]) -> Answer
-    requires { Ready words.old sets.old queues.old }
-    ensures { Performs rules.remove_and_release words.old sets.old queues.old result words.new sets.new queues.new }
+pub fn do_remove_and_release<L: Layout>(words: &mut [u16], sets: &mut [u32], queues: &mut [u8]) -> Answer
+    requires { ReadyOf L.layout words.old sets.old queues.old }
+    ensures { PerformsOf L.layout rules.remove_and_release words.old sets.old queues.old result words.new sets.new queues.new }
 {
     if words[RX_COUNT] == 0 {
         return Err(Refusal::RxEmpty);
     }
     let head = pool::leave_rx(words, queues);
-    pages::give_back(words, sets, head);
+    pages::give_back::<L>(words, sets, head);
     Ok(0)
 }

@@ -6,12 +6,13 @@ mod figures; // figures.rt: what the words keep of RX and of TX
 
 ghost use Rattle.std.specs.Prelude.{◌≡◌, ◌||◌, [], ◌∷◌, ◌++◌, ◌<◌, length, get_or, drop};
 ghost use Rattle.rules.specs.Bits.{bit};
+ghost use Rattle.rules.specs.Chip.{Layout};
 ghost use Rattle.rules.specs.Parts.{IsPart};
 ghost use Rattle.rules.specs.Fields.{set_rx, set_tx, set_completion};
 ghost use Rattle.queues.specs.Parts.{slots};
 ghost use Rattle.state.specs.View.{word, figures, rx_bits, tx_bits, queue_in, Kept};
 ghost use Rattle.state.specs.Promise.{QueuesIn};
-ghost use Rattle.pool.specs.Queues.{MayJoin, Rejoins, Emptied};
+ghost use Rattle.pool.specs.Queues.{MayJoin, Rejoins, EmptiedOf};
 
 pub use figures::store_none;
 use figures::{rx_bits, store_rx, store_tx, tx_bits};
@@ -141,10 +142,10 @@ pub fn empty_completion(words: &mut [u16], queues: &mut [u8])
     words[COMPLETION_COUNT] = 0;
 }
 
-// No packet has pages, and all queues are empty, whatever the figures were.
+// No packet has pages, and all queues are empty, whatever the figures were: in either layout, for 0 is "no pages" of a set as of a count.
 pub fn reset(words: &mut [u16], sets: &mut [u32], queues: &mut [u8])
     requires { Kept words.old × IsPart (length sets.old) × (length queues.old ≡ 72) }
-    ensures { Emptied (length sets.old) words.old words.new sets.new queues.new }
+    ensures { (l : Layout) → EmptiedOf l (length sets.old) words.old words.new sets.new queues.new }
 {
     let packets = sets.len() as u8;
     sets::cleared(sets);
