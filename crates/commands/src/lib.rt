@@ -14,6 +14,7 @@ ghost use Rattle.state.specs.Promise.{QueuesIn, PagesIn, SoundOf, ReadyOf, Makes
 ghost use Rattle.commands.specs.Orders.{PerformsOf};
 
 use pages::Layout;
+use pool::{Completion, Tx};
 
 pub use decode::decoded;
 pub use register::named;
@@ -62,8 +63,8 @@ pub fn do_reset_tx(words: &mut [u16], queues: &mut [u8]) -> Answer
     requires { Kept words.old × QueuesIn (figures words.old) queues.old × ((l : Layout) × (s : List ℕ) × PagesIn l (figures words.old) s) }
     ensures { (l : Layout) (s : List ℕ) → PagesIn l (figures words.old) s → PerformsOf l rules.reset_tx words.old s queues.old result words.new s queues.new }
 {
-    pool::empty_tx(words, queues);
-    pool::empty_completion(words, queues);
+    pool::empty::<Tx>(words, queues);
+    pool::empty::<Completion>(words, queues);
     Ok(0)
 }
 

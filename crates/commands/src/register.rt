@@ -7,6 +7,7 @@ ghost use Rattle.state.specs.Promise.{PagesIn, ReadyOf};
 ghost use Rattle.commands.specs.Orders.{PerformsOf};
 
 use pages::Layout;
+use pool::Tx;
 use sets::Packet;
 use state::{Answer, PACKET, Refusal};
 
@@ -44,6 +45,6 @@ pub fn do_enqueue<L: Layout>(words: &mut [u16], sets: &[u32], queues: &mut [u8])
     if pool::is_queued(words, packet) {
         return Err(Refusal::StillQueued);
     }
-    pool::join_tx(words, queues, packet);
+    pool::join::<Tx>(words, queues, packet);
     Ok(0)
 }

@@ -7,6 +7,7 @@ ghost use Rattle.state.specs.Promise.{QueuesIn, PagesIn, ReadyOf};
 ghost use Rattle.commands.specs.Orders.{PerformsOf};
 
 use pages::Layout;
+use pool::Rx;
 use state::{Answer, RX_COUNT, Refusal};
 
 pub fn do_remove(words: &mut [u16], queues: &mut [u8]) -> Answer
@@ -16,7 +17,7 @@ pub fn do_remove(words: &mut [u16], queues: &mut [u8]) -> Answer
     if words[RX_COUNT] == 0 {
         return Err(Refusal::RxEmpty);
     }
-    pool::leave_rx(words, queues);
+    pool::leave::<Rx>(words, queues);
     Ok(0)
 }
 
@@ -27,7 +28,7 @@ pub fn do_remove_and_release<L: Layout>(words: &mut [u16], sets: &mut [u32], que
     if words[RX_COUNT] == 0 {
         return Err(Refusal::RxEmpty);
     }
-    let head = pool::leave_rx(words, queues);
+    let head = pool::leave::<Rx>(words, queues);
     pages::give_back::<L>(words, sets, head);
     Ok(0)
 }

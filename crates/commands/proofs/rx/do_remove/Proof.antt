@@ -28,7 +28,7 @@ returns-2 c = λ l s pages mem.
     let w = a.args.words.now in
     let q = a.args.queues.now in
     let some : 0 < length (queue_in 0 (word w 6) q) = omega (arith, a.requires.1.rx.many, e.if-words-eq0.false) in
-    performs rules.remove_rx w s q mem (λ x. in_pool (set_rx (drop 1 x.pool.rx)) x) (removes (view_of l w s q mem) some) (rejoins_chip h.leave_rx.ensures.1 l s mem) (rejoins_sound h.leave_rx.ensures.1 pages)
+    performs rules.remove_rx w s q mem (λ x. in_pool (set_rx (drop 1 x.pool.rx)) x) (removes (view_of l w s q mem) some) (rejoins_chip h.leave.ensures.1 l s mem) (rejoins_sound h.leave.ensures.1 pages)
 
 pub do_remove_spec : {M : Type 1} → statement M
 do_remove_spec =
