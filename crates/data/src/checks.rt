@@ -9,6 +9,7 @@ ghost use Rattle.state.specs.Promise.{QueuesIn, Sound};
 ghost use Rattle.data.specs.Access.{meant_in, pages_meant, refusal_if, Guards};
 
 use crate::Gate;
+use pool::Rx;
 use sets::{Address, Packet};
 use state::{Answer, PACKET, PAGE_BYTES, PLACES, POINTER, RX_COUNT, Refusal, flags};
 
@@ -23,7 +24,7 @@ pub fn meant(words: &[u16], queues: &[u8]) -> Packet
     if words[RX_COUNT] == 0 {
         return Packet(PLACES);
     }
-    pool::rx_head(queues)
+    pool::head::<Rx>(queues)
 }
 
 // Refusal 8: is the access against the READ bit?
