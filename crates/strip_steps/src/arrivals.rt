@@ -9,8 +9,10 @@ ghost use Rattle.judging.specs.Frames.{frame_of};
 ghost use Rattle.receive.specs.Arrivals.{StowableOf};
 
 use judging::{count_of, data_length, judged, pages_for, status_of};
+use pages::Layout;
 use receive::{is_stored, turned_away};
 use state::{Answer, CONTROL, RCR, Refusal};
+use strips::Strips;
 
 // A frame that is stored takes the lowest unallocated number, and of that number's strip as many pages as it needs; the number goes to the end of RX.
 fn stowed(
@@ -26,8 +28,8 @@ fn stowed(
 {
     let n = data_length(words[RCR], frame.len());
     let status = status_of(words[CONTROL], frame, n, alignment);
-    let packet = strips::lowest_unallocated(counts);
-    strips::grant(words, counts, packet, pages_for(n));
+    let packet = Strips::lowest_unallocated(counts);
+    Strips::grant(words, counts, packet, pages_for(n));
     strip_bytes::store_frame(memory, packet, status, count_of(n), frame, n);
     pool::join_rx(words, queues, packet);
     Ok(0)

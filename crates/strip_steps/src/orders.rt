@@ -10,7 +10,9 @@ ghost use Rattle.state.specs.Promise.{QueuesIn, PagesIn, SoundOf, ReadyOf, Makes
 ghost use Rattle.commands.specs.Orders.{PerformsOf};
 
 use commands::{Order, named};
+use pages::Layout;
 use state::{Answer, NO_PACKET, RX_COUNT, Refusal, Width};
+use strips::Strips;
 
 // Enough pages are free, or the request waits for them.
 fn do_allocate(words: &mut [u16], counts: &mut [u32], need: u32) -> Answer
@@ -18,7 +20,7 @@ fn do_allocate(words: &mut [u16], counts: &mut [u32], need: u32) -> Answer
     ensures { (q : List ℕ) → QueuesIn (figures words.old) q → PerformsOf strips (rules.allocate need) words.old counts.old q result words.new counts.new q }
 {
     if need <= pages::free_count(words) {
-        strips::allocate(words, counts, need);
+        pages::allocate::<Strips>(words, counts, need);
         return Ok(0);
     }
     pages::give_result(words, NO_PACKET, need as u16);
@@ -44,7 +46,7 @@ fn do_remove_and_release(words: &mut [u16], counts: &mut [u32], queues: &mut [u8
         return Err(Refusal::RxEmpty);
     }
     let head = pool::leave_rx(words, queues);
-    strips::give_back(words, counts, head);
+    pages::give_back::<Strips>(words, counts, head);
     Ok(0)
 }
 
@@ -54,13 +56,13 @@ fn do_release(words: &mut [u16], counts: &mut [u32]) -> Answer
     ensures { (q : List ℕ) → ReadyOf strips words.old counts.old q → PerformsOf strips rules.release words.old counts.old q result words.new counts.new q }
 {
     let packet = named(words);
-    if !strips::is_allocated(counts, packet) {
+    if !Strips::is_allocated(counts, packet) {
         return Err(Refusal::NotAllocated);
     }
     if pool::is_queued(words, packet) {
         return Err(Refusal::StillQueued);
     }
-    strips::give_back(words, counts, packet);
+    pages::give_back::<Strips>(words, counts, packet);
     Ok(0)
 }
 
@@ -70,7 +72,7 @@ fn do_enqueue(words: &mut [u16], counts: &[u32], queues: &mut [u8]) -> Answer
     ensures { PerformsOf strips rules.enqueue words.old counts.now queues.old result words.new counts.now queues.new }
 {
     let packet = named(words);
-    if !strips::is_allocated(counts, packet) {
+    if !Strips::is_allocated(counts, packet) {
         return Err(Refusal::NotAllocated);
     }
     if pool::is_queued(words, packet) {

@@ -15,6 +15,7 @@ use sending::{LEAST_COUNT, is_past};
 use sets::{Address, Packet};
 use state::{Answer, COMPLETION_COUNT, CONTROL, EPHSR, LINK, Refusal, TCR, TX_COUNT, flags};
 use strip_output::{address_bits, put_out};
+use strips::Strips;
 
 // The packet is released, or its number joins completion.
 fn retire(words: &mut [u16], counts: &mut [u32], queues: &mut [u8], packet: Packet, released: bool)
@@ -22,7 +23,7 @@ fn retire(words: &mut [u16], counts: &mut [u32], queues: &mut [u8], packet: Pack
     ensures { RetiresOf strips released packet.0 words.old counts.old queues.old words.new counts.new queues.new }
 {
     if released {
-        strips::give_back(words, counts, packet);
+        pages::give_back::<Strips>(words, counts, packet);
         return;
     }
     pool::join_completion(words, queues, packet);
