@@ -1,7 +1,8 @@
-// The pointer and the data accesses, over the lent state.
+// The pointer and the data accesses, over the lent state; those of `read_data` and `write_data` are the paged chip's.
 #![tactic(auto)]
 
 mod checks; // checks.rt: which packet the pointer means, and where the first byte lies or why it is refused
+mod layout; // layout.rt: data accesses in either layout
 mod pointer; // pointer.rt: the pointer after an access
 mod reads; // reads.rt: reads behind the gate
 mod writes; // writes.rt: writes behind the gate
@@ -13,14 +14,15 @@ ghost use Rattle.state.specs.Promise.{Ready, Makes};
 ghost use Rattle.data.specs.Access.{width_of, bytes_for};
 
 pub use checks::{is_against, is_odd_fixed, meant, refusal};
+pub use layout::Data;
 pub use pointer::advance;
 use state::Answer;
 
-// Where the access goes: the place of its first byte, in the lowest page of the set, which is the packet's from there on; or a refusal.
-#[derive(Drop)]
-enum Gate {
-    Open(usize, u32),
-    Refused(Answer),
+// Where an access goes: the place of its first byte, in the lowest page of the set, which is the packet's from there on.
+#[derive(Clone, Copy)]
+struct Spot {
+    at: usize,
+    rest: u32,
 }
 
 // A data read on a chip that is well formed. The byte's answer is made here, for the compiler alone: see `accesses::read`.
@@ -34,16 +36,11 @@ pub fn read_data(
     requires { Ready words.old sets.now queues.now × (length memory.now ≡ 256 * length sets.now) }
     ensures { Makes (read_data (width_of wide) (view words.old sets.now queues.now memory.now)) result words.new sets.now queues.now memory.now }
 {
-    let gate = checks::gate_of(words, sets, queues, true);
-    match gate {
-        Gate::Refused(answer) => answer,
-        Gate::Open(i, rest) => {
-            if !wide {
-                return Ok(reads::read_byte(words, memory, i, rest));
-            }
-            reads::read_word(words, memory, i, rest)
-        }
+    let Spot { at, rest } = checks::gate_of(words, sets, queues, true)?;
+    if !wide {
+        return Ok(reads::read_byte(words, memory, at, rest));
     }
+    reads::read_word(words, memory, at, rest)
 }
 
 // A data write on a chip that is well formed.
@@ -58,15 +55,9 @@ pub fn write_data(
     requires { Ready words.old sets.now queues.now × (length memory.old ≡ 256 * length sets.now) }
     ensures { Makes (write_data (bytes_for wide value) (view words.old sets.now queues.now memory.old)) result words.new sets.now queues.now memory.new }
 {
-    let gate = checks::gate_of(words, sets, queues, false);
-    match gate {
-        Gate::Refused(answer) => answer,
-        Gate::Open(i, rest) => {
-            if wide {
-                writes::write_word(words, memory, i, rest, value)
-            } else {
-                writes::write_byte(words, memory, i, rest, value)
-            }
-        }
+    let Spot { at, rest } = checks::gate_of(words, sets, queues, false)?;
+    if wide {
+        return writes::write_word(words, memory, at, rest, value);
     }
+    writes::write_byte(words, memory, at, rest, value)
 }
