@@ -149,7 +149,7 @@ def check_names(crate, functions, sources):
 
 
 def uses(text, f):
-    if re.search(rf"\b{f.crate}::{f.path}(?:\(|;)", text):
+    if re.search(rf"\b{f.crate}::{f.path}(?:(?:::<[^<>()]*>)?\(|;)", text):
         return True
     if "::" in f.path:
         module = f.path.split("::")[0]

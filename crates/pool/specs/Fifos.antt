@@ -1,4 +1,4 @@
--- What is said of each of the three queues alike: what is known of it, and what its change promises.
+-- What holds of each of the three queues alike, by where it stands.
 use Rattle.std.specs.Prelude.{◌≡◌, refl, List, ℕ, Option, None, Some, IfSome, ◌+◌, ◌*◌, ◌/◌, ◌%◌, ◌<◌, ◌≢◌, length, set}
 use Rattle.std.proofs.Common.{ap, sym, subst, ◌∙◌, arith}
 use Rattle.std.proofs.lemmas.List.{set_comm}
@@ -24,7 +24,7 @@ abbrev pub bits_by : Option ℕ → (ℕ → ℕ) → List ℕ → List ℕ
 bits_by None f w = w
 bits_by (Some low) f w = with_bits low (f (bits_at low w)) w
 
--- the queue with so many slots' bytes and entries: its slots, its count, its bits, and its entries in the pool
+-- What is at these places are the queue's slots, its count and its bits, and the pool has its entries so.
 pub record IsFifo (place from count : ℕ) (bits : Option ℕ) (entries : Pool → List ℕ) (set_entries : List ℕ → Pool → Pool) : Type 0 where
   pub few : place < 3
   pub begins : from ≡ 24 * place
@@ -33,7 +33,7 @@ pub record IsFifo (place from count : ℕ) (bits : Option ℕ) (entries : Pool �
   pub own : (l : Layout) (w s q : List ℕ) → entries (pool_of l (figures w) s q) ≡ queue_in place (word w count) q
   pub in_slots : (w q : List ℕ) → QueuesIn (figures w) q → Slots (slots place q) (word w count) (queue_in place (word w count) q)
   pub in_bits : (w q : List ℕ) → QueuesIn (figures w) q → IfSome bits (λ low. Halves (word w low) (word w (low + 1)) (set_of (queue_in place (word w count) q)))
-  -- other entries, with their slots, their count and their bits
+  -- where its slots, count and bits become those of other entries, the pool has these, and no more changes
   pub stored : (w q p l : List ℕ) (n : ℕ) → Kept w → QueuesIn (figures w) q → Slots p n l → length p ≡ 24 → Rejoins (set_entries l) w q (set (bits_by bits (λ x. set_of l) w) count n) (replaced place p q)
 
 -- the count may be stored last

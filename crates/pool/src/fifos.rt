@@ -1,4 +1,4 @@
-// The three queues: where each stands in the lent state, and what the pool has of it.
+// What tells the three queues apart: where each stands in the lent state, and what the pool has of it.
 ghost use Rattle.std.specs.Prelude.{ℕ, List, Option, None, Some};
 ghost use Rattle.rules.specs.Chip.{Pool};
 ghost use Rattle.rules.specs.Fields.{set_rx, set_tx, set_completion};

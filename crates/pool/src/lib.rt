@@ -2,8 +2,8 @@
 // each figure in the one function that joins a queue or leaves it, and where a queue or all, with the pages (`pages`), is emptied.
 #![tactic(auto)]
 
-mod fifos; // fifos.rt: the three queues
-mod figures; // figures.rt: what the words keep of RX and of TX
+mod fifos; // fifos.rt: what tells the three queues apart
+mod figures; // figures.rt: what the words keep of the queues
 
 ghost use Rattle.std.specs.Prelude.{◌≡◌, ◌||◌, [], ◌∷◌, ◌++◌, ◌<◌, IfSome, length, get_or, drop};
 ghost use Rattle.rules.specs.Bits.{bit};
@@ -42,7 +42,7 @@ pub fn is_queued(words: &[u16], packet: Packet) -> bool
     marks::has(rx | tx, packet)
 }
 
-// The packet joins the end of a queue; of one with bits it may not be in it yet.
+// The packet joins the end of a queue. It may not stand there yet where the queue's bits are kept.
 pub fn join<Q: Fifo>(words: &mut [u16], queues: &mut [u8], packet: Packet)
     requires { Kept words.old × QueuesIn (figures words.old) queues.old × (word words.old Q.COUNT < 24) × IfSome Q.BITS (λ low. MayJoin packet.0 (queue_in Q.place (word words.old Q.COUNT) queues.old)) }
     ensures { Rejoins (λ p. Q.set_entries (Q.entries p ++ (packet.0 ∷ [])) p) words.old queues.old words.new queues.new }
