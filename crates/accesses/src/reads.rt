@@ -1,13 +1,14 @@
 // Reads.
 ghost use Rattle.std.specs.Prelude.{◌≡◌, List, ℕ, ◌*◌, ◌/◌, length};
-ghost use Rattle.rules.specs.Chip.{Layout};
+ghost use Rattle.rules.specs.Chip.{Layout, page_numbers};
 ghost use Rattle.rules.specs.Registers as rules;
 ghost use Rattle.state.specs.Meaning.{width_of, Placed};
-ghost use Rattle.state.specs.View.{figures, view, view_of, Kept};
-ghost use Rattle.state.specs.Promise.{QueuesIn, PagesIn, Ready, MakesOf, Makes};
+ghost use Rattle.state.specs.View.{figures, view_of, Kept};
+ghost use Rattle.state.specs.Promise.{QueuesIn, PagesIn, ReadyOf, MakesOf};
 ghost use Rattle.accesses.specs.Reach.{place_of};
 
 use crate::{DATA, DATA_1, is_wide, place};
+use data::Data;
 use state::{
     Answer, BANK, COMMAND, CONTROL, ECR, EPHSR, HEADS, INTERRUPT, MIR, PACKET, POINTER, RCR,
     RESERVED, Refusal, STATION, STATION_1, STATION_2, TABLE, TABLE_1, TABLE_2, TABLE_3, TCR, Width,
@@ -56,7 +57,7 @@ pub fn read_register(words: &[u16], queues: &[u8], at: usize, width: Width, offs
 
 // A read: of data, of ECR, or of another register. Each of data's places has an arm of its own, for the compiler alone: this table and that of `read_register` are one to it then.
 // So is an answer first put by and then returned: returned straight from the call, its number and its value are packed into one number and taken apart again, by up to 17 instructions.
-pub fn read(
+pub fn read<L: Data>(
     words: &mut [u16],
     sets: &[u32],
     queues: &[u8],
@@ -64,8 +65,8 @@ pub fn read(
     width: Width,
     offset: u8,
 ) -> Answer
-    requires { Ready words.old sets.now queues.now × (length memory.now ≡ 256 * length sets.now) }
-    ensures { Makes (rules.access (rules.read (width_of width) offset) (view words.old sets.now queues.now memory.now)) result words.new sets.now queues.now memory.now }
+    requires { ReadyOf L.layout words.old sets.now queues.now × (length memory.now ≡ 256 * page_numbers L.layout (length sets.now)) }
+    ensures { MakesOf L.layout (rules.access (rules.read (width_of width) offset) (view_of L.layout words.old sets.now queues.now memory.now)) result words.new sets.now queues.now memory.now }
 {
     if state::misplaced(width, offset) {
         return Err(Refusal::Misplaced);
@@ -83,6 +84,6 @@ pub fn read(
             return answer;
         }
     }
-    let answer = data::read_data(words, sets, queues, memory, is_wide(width));
+    let answer = L::read_data(words, sets, queues, memory, is_wide(width));
     answer
 }
