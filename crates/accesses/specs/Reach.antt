@@ -16,6 +16,7 @@ use Rattle.state.specs.Meaning.{Answer}
 use Rattle.state.specs.declared.Refusal.TheVariants.{Misplaced}
 use Rattle.state.specs.Meaning.{width_of, is_high}
 use Rattle.state.specs.View.{word, view_of, Kept}
+pub use Rattle.data.specs.Behind.{makes_as}
 use Rattle.state.specs.Promise.{SoundOf, MakesOf}
 use Rattle.state.specs.Laws.{register_in, decoded}
 use Rattle.state.specs.Writes.{low_only_lem}
@@ -29,10 +30,6 @@ within : (width : Width) (offset : ℕ) → misplaced width offset ≡ false →
 unfolding misplaced
 within rules.byte offset e = omega (arith, ltb-false 15 offset e)
 within rules.word offset e = omega (arith, ltb-false 15 offset (or_left (ltb 15 offset) (bit 0 offset) e))
-
--- What makes an effect makes it said otherwise.
-pub makes_as : {l : Layout} {e f : Effect} {a : Answer} {w s q mem : List ℕ} → e ≡ f → MakesOf l f a w s q mem → MakesOf l e a w s q mem
-makes_as {l} {a = a} {w = w} {s = s} {q = q} {mem = mem} x = subst (λ (k : Effect). MakesOf l k a w s q mem) (sym x)
 
 pub answered : {l : Layout} {e : Effect} {a b : Answer} {w s q mem : List ℕ} → a ≡ b → MakesOf l e b w s q mem → MakesOf l e a w s q mem
 answered {l} {e} {w = w} {s = s} {q = q} {mem = mem} x = subst (λ (k : Answer). MakesOf l e k w s q mem) (sym x)

@@ -1,7 +1,7 @@
 -- Behind the gate: where the bytes of an access lie, whether the second is past the packet's pages, and the effect that the access then makes.
 use Rattle.std.specs.Prelude.{◌≡◌, refl, true, false, set, drop, Ok, Err}
 use Rattle.std.proofs.Math.Path.{ap}
-use Rattle.std.proofs.Common.{ap₂, ◌∙◌, arith}
+use Rattle.std.proofs.Common.{ap₂, sym, subst, ◌∙◌, arith}
 use mathlib.Core.List.{List}
 use Prim.Native.Nat.{ℕ, suc, ◌+◌, ◌*◌, ◌/◌, ◌%◌, ◌^◌, ◌<◌}
 use borrow.Author.Tests.{lt-ltb, le-ltb}
@@ -17,7 +17,7 @@ use Rattle.lists.specs.Bytes.{Below, below_at}
 use Rattle.sets.specs.Views.{pages_of}
 use Rattle.sets.specs.Pages.{rest_none, rest_goes, rest_first}
 use Rattle.state.specs.declared.Refusal.TheVariants.{PastPages}
-use Rattle.state.specs.Meaning.{reply_of}
+use Rattle.state.specs.Meaning.{Answer, reply_of}
 use Rattle.state.specs.View.{word, view_of}
 use Rattle.state.specs.Promise.{Sets, sets_chip, sets_sound, SoundOf, MakesOf}
 use Rattle.data.specs.Access.{bytes_for, unless_past, read_behind, write_behind, Stands, moves}
@@ -101,3 +101,7 @@ pub writes : {l : Layout} (bytes pages w s q mem : List ℕ) {w' mem' : List ℕ
 unfolding unless_past
 writes {l} bytes pages w s q mem o t m e =
     rw (t, e) (record { chip = ap (in_memory (put_bytes bytes (address (word w 19)) pages)) (sets_chip m l s q mem); reply = refl; sound = sets_sound m o })
+
+-- What makes an effect makes it said otherwise.
+pub makes_as : {l : Layout} {e f : Effect} {a : Answer} {w s q mem : List ℕ} → e ≡ f → MakesOf l f a w s q mem → MakesOf l e a w s q mem
+makes_as {l} {a = a} {w = w} {s = s} {q = q} {mem = mem} x = subst (λ (k : Effect). MakesOf l k a w s q mem) (sym x)

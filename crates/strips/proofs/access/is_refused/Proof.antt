@@ -3,8 +3,8 @@ use borrow.Author.Rules.{rules}
 use mathlib.Core.Path.{◌≡◌, sym, ◌∙◌}
 use mathlib.Core.Bool.{true, false}
 use Rattle.rules.specs.Data.{address, against, odd_fixed}
-use Rattle.strip_steps.proofs.access.is_refused.Statement.{statement}
-use Rattle.strip_steps.proofs.access.is_refused.Tie as tie
+use Rattle.strips.proofs.access.is_refused.Statement.{statement}
+use Rattle.strips.proofs.access.is_refused.Tie as tie
 
 returns : tie.Need-returns-then-is_against
 returns c = let s = c in let e : against s.args.reading s.args.pointer ≡ true = sym c.is_against.ensures ∙ c.if-is_against.true in rw e

@@ -1,7 +1,7 @@
 -- By the width.
 use borrow.Author.Rules.{rules}
-use Rattle.strip_steps.proofs.access.value_at.Statement.{statement}
-use Rattle.strip_steps.proofs.access.value_at.Tie as tie
+use Rattle.strips.proofs.access.value_at.Statement.{statement}
+use Rattle.strips.proofs.access.value_at.Tie as tie
 
 pub value_at_spec : {M : Type 1} → statement M
 value_at_spec =
