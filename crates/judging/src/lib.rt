@@ -9,10 +9,9 @@ mod judge; // judge.rt: the verdict
 pub use judge::judged;
 pub use length::{count_of, data_length, pages_for, status_of};
 
-// What becomes of a frame; the answer's value in the order of document 01 is 0 to 5.
-#[derive(Clone, Copy)]
-pub enum Verdict {
-    Stored,
+// Why a frame is not stored; the answer's value in the order of document 01 is 1 to 5.
+#[derive(Clone, Copy, PartialEq, Eq)]
+pub enum Rejection {
     Disabled,
     NotAccepted,
     TooLong,

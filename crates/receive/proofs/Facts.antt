@@ -21,6 +21,10 @@ use Rattle.state.specs.Stores.{store_rcr, store_latches}
 pub does_with : {f : Registers → Registers} {w w' : List ℕ} → (v : ℕ) → Sets f w w' → Does (λ c. done_with v (in_registers f c)) w (Ok v) w'
 does_with v a = record { step = λ l s q mem. ap (done_with v) (sets_chip a l s q mem); still = a.still; kept = a.kept }
 
+-- The answer may be all that there is of it.
+pub stays : (k : ℕ) {w : List ℕ} → Kept w → Does (λ c. done_with k c) w (Ok k) w
+stays k h = record { step = λ l s q mem. refl; still = refl; kept = h }
+
 pub does_after : {f : Chip → Effect} {g : Registers → Registers} {w w' w'' : List ℕ} {a : Answer} → Sets g w w' → Does f w' a w'' → Does (λ c. f (in_registers g c)) w a w''
 does_after {f} a d = record { step = λ l s q mem. d.step l s q mem ∙ ap f (sets_chip a l s q mem); still = d.still ∙ a.still; kept = d.kept }
 

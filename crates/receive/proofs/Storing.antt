@@ -1,7 +1,7 @@
 -- A frame that is to be stored in page sets: the number may get its pages, and the frame fits in them.
-use mathlib.Core.Path.{◌≡◌, sym, subst}
+use mathlib.Core.Path.{◌≡◌, ap, sym, subst, ◌∙◌}
 use mathlib.Core.List.{List, map}
-use Prim.Native.Nat.{ℕ, ◌*◌}
+use Prim.Native.Nat.{ℕ, ◌*◌, ◌≤◌}
 use native.Mathlib.Omega.{arith}
 use lib.ListN.{length, take}
 use lib.Seq.{length-take-le}
@@ -15,10 +15,11 @@ use Rattle.sets.specs.Views.{pages_of}
 use Rattle.sets.specs.Lists.{lists_length}
 use Rattle.packet.specs.Room.{Room, image_of}
 use Rattle.packet.proofs.Facts.{room_of, image_is}
-use Rattle.state.specs.View.{registers_in}
+use Rattle.state.specs.View.{word, registers_in}
+use Rattle.judging.specs.Frames.{with_rcr, data_by, needed_by}
 use Rattle.pages.specs.Pages.{Grantable}
 use Rattle.receive.specs.Arrivals.{Stowable}
-use Rattle.receive.specs.Storing.{need, number, number_small, enough, few_needed}
+use Rattle.receive.specs.Storing.{need, number, number_small, enough, few_needed, data_few}
 
 module _ {w s q : List ℕ} {f : Frame} (t : Stowable w s q f) where
   abbrev ls : List (List ℕ)
@@ -30,6 +31,19 @@ module _ {w s q : List ℕ} {f : Frame} (t : Stowable w s q f) where
   -- the pages that the frame gets
   abbrev grant : List ℕ
   grant = take (need t) (free_for paged ls)
+
+  -- the length and the pages that the functions give are the rules'
+  pub data_is : (k : ℕ) → k ≡ data_length (with_rcr (word w 2)) (length f.bytes) → k ≡ n
+  data_is k e = e ∙ sym (data_by (registers_in w) (length f.bytes))
+
+  pub data_fits : (k : ℕ) → k ≡ data_length (with_rcr (word w 2)) (length f.bytes) → k ≤ 1532
+  data_fits k e = omega (arith, data_is k e, data_few t)
+
+  pub need_is : (k m : ℕ) → k ≡ data_length (with_rcr (word w 2)) (length f.bytes) → m ≡ pages_for (count_of k) → m ≡ need t
+  need_is k m = needed_by (registers_in w) (length f.bytes) k m
+
+  pub granted : (m p : ℕ) → pages_of p ≡ take m (free_for paged ls) → m ≡ need t → pages_of p ≡ grant
+  granted m p a b = a ∙ ap (λ (j : ℕ). take j (free_for paged ls)) b
 
   pub grantable : (k m : ℕ) → k ≡ number t → m ≡ need t → Grantable k m ls
   grantable k m a b = rw (a, b) (record {

@@ -3,7 +3,7 @@
 
 mod stow; // stow.rt: a frame that is stored
 
-ghost use Rattle.std.specs.Prelude.{◌≡◌, true, false, ◌*◌, length};
+ghost use Rattle.std.specs.Prelude.{◌≡◌, true, ◌*◌, length};
 ghost use Rattle.rules.specs.Answers.{done_with};
 ghost use Rattle.rules.specs.Fields.{set_overrun, in_registers};
 ghost use Rattle.rules.specs.Receive.{abort, arrive};
@@ -11,24 +11,10 @@ ghost use Rattle.state.specs.View.{view, Kept};
 ghost use Rattle.state.specs.Promise.{Ready, Does, Makes};
 ghost use Rattle.judging.specs.Frames.{frame_of};
 ghost use Rattle.judging.specs.Verdicts.{arrival_of};
-ghost use Rattle.receive.specs.Arrivals.{is_stored, turned_away};
+ghost use Rattle.receive.specs.Arrivals.{turned_away};
 
-use judging::{Verdict, judged};
+use judging::{Rejection, judged};
 use state::{Answer, LATCHES, RCR, Refusal, flags};
-
-// Is the frame stored?
-pub fn is_stored(verdict: Verdict) -> bool
-    ensures { result ≡ is_stored (arrival_of verdict) }
-{
-    match verdict {
-        Verdict::Stored => true,
-        Verdict::Disabled => false,
-        Verdict::NotAccepted => false,
-        Verdict::TooLong => false,
-        Verdict::Bad => false,
-        Verdict::NoRoom => false,
-    }
-}
 
 // The frame is not stored, and RX_ABORT says so.
 fn aborted(words: &mut [u16], value: u16) -> Answer
@@ -49,18 +35,17 @@ fn overrun(words: &mut [u16], value: u16) -> Answer
 }
 
 // A frame that is not stored: the answer's value says why, and of 3 and 5 the registers too.
-pub fn turned_away(words: &mut [u16], verdict: Verdict) -> Answer
-    requires { Kept words.old × (is_stored (arrival_of verdict) ≡ false) }
-    ensures { Does (turned_away (arrival_of verdict)) words.old result words.new }
+#[tactic(auto, using(crate::proofs::Facts::stays), unfolding(rules::specs::Receive::value_for, rules::specs::Receive::after))]
+pub fn turned_away(words: &mut [u16], rejection: Rejection) -> Answer
+    requires { Kept words.old }
+    ensures { Does (turned_away (arrival_of (Err rejection))) words.old result words.new }
 {
-    match verdict {
-        // not here
-        Verdict::Stored => Ok(0),
-        Verdict::Disabled => Ok(1),
-        Verdict::NotAccepted => Ok(2),
-        Verdict::TooLong => aborted(words, 3),
-        Verdict::Bad => Ok(4),
-        Verdict::NoRoom => overrun(words, 5),
+    match rejection {
+        Rejection::Disabled => Ok(1),
+        Rejection::NotAccepted => Ok(2),
+        Rejection::TooLong => aborted(words, 3),
+        Rejection::Bad => Ok(4),
+        Rejection::NoRoom => overrun(words, 5),
     }
 }
 
@@ -79,9 +64,8 @@ pub fn arrived(
     if frame.len() < 18 {
         return Err(Refusal::OutsideLimits);
     }
-    let verdict = judged(words, frame, alignment);
-    if !is_stored(verdict) {
-        return turned_away(words, verdict);
+    if let Err(rejection) = judged(words, frame, alignment) {
+        return turned_away(words, rejection);
     }
     stow::stowed(words, sets, queues, memory, frame, alignment)
 }
