@@ -5,16 +5,18 @@ mod stow; // stow.rt: a frame that is stored
 
 ghost use Rattle.std.specs.Prelude.{◌≡◌, true, ◌*◌, length};
 ghost use Rattle.rules.specs.Answers.{done_with};
+ghost use Rattle.rules.specs.Chip.{page_numbers};
 ghost use Rattle.rules.specs.Fields.{set_overrun, in_registers};
 ghost use Rattle.rules.specs.Receive.{abort, arrive};
-ghost use Rattle.state.specs.View.{view, Kept};
-ghost use Rattle.state.specs.Promise.{Ready, Does, Makes};
+ghost use Rattle.state.specs.View.{view_of, Kept};
+ghost use Rattle.state.specs.Promise.{ReadyOf, Does, MakesOf};
 ghost use Rattle.judging.specs.Frames.{frame_of};
 ghost use Rattle.judging.specs.Verdicts.{arrival_of};
 ghost use Rattle.receive.specs.Arrivals.{turned_away};
 
 use judging::{Rejection, judged};
 use state::{Answer, LATCHES, RCR, Refusal, flags};
+use stores::Store;
 
 // The frame is not stored, and RX_ABORT says so.
 fn aborted(words: &mut [u16], value: u16) -> Answer
@@ -50,7 +52,7 @@ pub fn turned_away(words: &mut [u16], rejection: Rejection) -> Answer
 }
 
 // A frame arrives at a chip that is well formed: its bytes with FCS, and the flag alignment.
-pub fn arrived(
+pub fn arrived<L: Store>(
     words: &mut [u16],
     sets: &mut [u32],
     queues: &mut [u8],
@@ -58,8 +60,8 @@ pub fn arrived(
     frame: &[u8],
     alignment: bool,
 ) -> Answer
-    requires { Ready words.old sets.old queues.old × (length memory.old ≡ 256 * length sets.old) }
-    ensures { Makes (arrive (frame_of frame.now alignment) (view words.old sets.old queues.old memory.old)) result words.new sets.new queues.new memory.new }
+    requires { ReadyOf L.layout words.old sets.old queues.old × (length memory.old ≡ 256 * page_numbers L.layout (length sets.old)) }
+    ensures { MakesOf L.layout (arrive (frame_of frame.now alignment) (view_of L.layout words.old sets.old queues.old memory.old)) result words.new sets.new queues.new memory.new }
 {
     if frame.len() < 18 {
         return Err(Refusal::OutsideLimits);
@@ -67,5 +69,5 @@ pub fn arrived(
     if let Err(rejection) = judged(words, frame, alignment) {
         return turned_away(words, rejection);
     }
-    stow::stowed(words, sets, queues, memory, frame, alignment)
+    stow::stowed::<L>(words, sets, queues, memory, frame, alignment)
 }
