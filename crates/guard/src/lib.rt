@@ -1,6 +1,7 @@
 // Is a record in order: does it name a part, is it laid out as it must be, and of a chip that is well formed? What document 01's refusal 16 asks.
 #![tactic(auto)]
 
+mod layout; // layout.rt: is a record in order, in either layout
 mod fifos; // fifos.rt: the three queues
 mod words; // words.rt: the registers
 
@@ -9,6 +10,7 @@ ghost use Rattle.lists.specs.Facts.{Decides};
 ghost use Rattle.state.specs.Entry.{Holds};
 
 pub use fifos::queues_good;
+pub use layout::Ordered;
 use state::{MIR, PACKET, WAITING};
 pub use words::{request_good, words_good};
 

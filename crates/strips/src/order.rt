@@ -1,11 +1,13 @@
 // Is a record in order: what refusal 16 asks of a chip of strips, but for the length of its memory.
+ghost use Rattle.std.proofs.Common.{rules, arith};
 ghost use Rattle.std.specs.Prelude.{◌≡◌, ◌<◌, length};
 ghost use Rattle.rules.specs.Chip.{strips};
 ghost use Rattle.lists.specs.Facts.{Decides};
 ghost use Rattle.state.specs.Entry.{HoldsOf};
 ghost use Rattle.strips.specs.Counts.{GoodCounts};
 
-use guard::{empty_from, queues_good, request_good, words_good};
+use crate::counts::Strips;
+use guard::{Ordered, empty_from, queues_good, request_good, words_good};
 use pages::free_count;
 use state::{MIR, PACKET, WAITING};
 
@@ -53,4 +55,18 @@ pub fn well_formed(words: &[u16], counts: &[u32], queues: &[u8]) -> bool
         return false;
     }
     queues_good(words, counts, queues, size)
+}
+
+impl Ordered for Strips {
+    const PACKET_BYTES: usize = 2048;
+
+    ghost PACKET_BYTES = { 2048 };
+
+    fn well_formed(words: &[u16], counts: &[u32], queues: &[u8]) -> bool {
+        well_formed(words, counts, queues)
+    }
+
+    ghost long = { λ n. omega arith };
+
+    ghost few = { Prim.search rules };
 }
