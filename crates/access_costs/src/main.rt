@@ -107,7 +107,7 @@ fn frame() -> [u8; 1518] {
 
 // The complete records of the input, in all rounds from power-up on. With the answers' values added up none can be left out.
 fn run(input: &[u8]) -> u64 {
-    let (records, _) = input.as_chunks();
+    let (records, _) = input.as_chunks::<8>();
     let frame = frame();
     let mut lent = Lent::powered_up();
     let mut sum: u64 = 0;
