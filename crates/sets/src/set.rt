@@ -9,7 +9,7 @@ use crate::Page;
 pub fn page_count(set: u32) -> u32
     ensures { result ≡ length (pages_of set) }
 {
-    u32::count_ones(set)
+    set.count_ones()
 }
 
 // Has the set a page?
@@ -37,7 +37,7 @@ pub fn lowest_page(set: u32) -> Page
     requires { 0 < set }
     ensures { result.0 ≡ slice_index (pages_of set) 0 }
 {
-    Page(u32::trailing_zeros(set) as u8)
+    Page(set.trailing_zeros() as u8)
 }
 
 // Page k of the set: the place of its bit with k ones below it.
