@@ -6,7 +6,7 @@
 ghost use Rattle.std.specs.Prelude.{◌≡◌, ◌/◌, ◌<◌, length};
 ghost use Rattle.state.specs.Entry.{InOrder};
 
-use state::{Answer, Part, Width};
+use state::{Answer, Part, Shown, Width};
 
 const ROUNDS: u64 = 100;
 
@@ -40,7 +40,7 @@ fn width_of(kind: u8) -> Width {
 
 // With the values added up no answer can be left out.
 fn add(sum: &mut u64, answer: Answer) {
-    let shown = state::printed(answer);
+    let shown = Shown::from(answer);
     *sum = std::num::wrapping_add_u64(*sum, shown.1 as u64);
 }
 
@@ -69,7 +69,7 @@ fn answer_one(
             record.value,
         ),
         6 => chip::arrived(words, sets, queues, memory, frame, false),
-        _ => Answer::Done(0),
+        _ => Ok(0),
     }
 }
 

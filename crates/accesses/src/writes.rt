@@ -10,7 +10,7 @@ ghost use Rattle.accesses.specs.Reach.{place_of};
 use crate::{DATA, DATA_1, is_wide, place};
 use state::{
     Answer, COMMAND, CONTROL, ECR, EPHSR, HEADS, INTERRUPT, MIR, PACKET, POINTER, RCR, RESERVED,
-    STATION, STATION_1, STATION_2, TABLE, TABLE_1, TABLE_2, TABLE_3, TCR, Width,
+    Refusal, STATION, STATION_1, STATION_2, TABLE, TABLE_1, TABLE_2, TABLE_3, TCR, Width,
 };
 
 // The low byte is the command; the high byte is read-only.
@@ -26,7 +26,7 @@ fn write_command(
     ensures { (mem : List ℕ) → Makes (rules.write_register rules.COMMAND (rules.lanes_at (width_of width) offset) value (view words.old sets.old queues.old mem)) result words.new sets.new queues.new mem }
 {
     if state::is_high(width, offset) {
-        return Answer::ReadOnly;
+        return Err(Refusal::ReadOnly);
     }
     commands::commanded(words, sets, queues, bits::low_byte(value))
 }
@@ -53,16 +53,16 @@ pub fn write_register(
         7 | 15 | 23 | 31 | 39 | 47 | 55 | 63 => {
             registers::write_bank(words, width, offset, value)
         }
-        EPHSR | ECR | HEADS => Answer::ReadOnly,
-        MIR => Answer::ReadOnly,
-        6 | 8 | 13 | 28 | 30 | 32 | 34 | 36 | 38 => Answer::NotModelled,
-        9 | 29 | 33 | 35 | 37 => Answer::NotModelled,
+        EPHSR | ECR | HEADS => Err(Refusal::ReadOnly),
+        MIR => Err(Refusal::ReadOnly),
+        6 | 8 | 13 | 28 | 30 | 32 | 34 | 36 | 38 => Err(Refusal::NotModelled),
+        9 | 29 | 33 | 35 | 37 => Err(Refusal::NotModelled),
         STATION | STATION_2 | POINTER | TABLE | TABLE_2 => {
             registers::write_word(words, at, width, offset, value)
         }
         STATION_1 | TABLE_1 | TABLE_3 => { registers::write_word(words, at, width, offset, value) }
         // banks 5 to 7: ignored
-        _ => Answer::Done(0),
+        _ => Ok(0),
     }
 }
 
@@ -80,7 +80,7 @@ pub fn write(
     ensures { Makes (rules.access (rules.write (width_of width) offset value) (view words.old sets.old queues.old memory.old)) result words.new sets.new queues.new memory.new }
 {
     if state::misplaced(width, offset) {
-        return Answer::Misplaced;
+        return Err(Refusal::Misplaced);
     }
     let at = place(words, offset);
     match at {

@@ -9,7 +9,7 @@ use Rattle.rules.specs.Chip.{Layout, paged}
 use Rattle.rules.specs.Interrupts.{line_up}
 use Rattle.rules.specs.Bench.{Bench, Answered, Form, answer, event_of}
 use Rattle.rules.specs.Watch.{is_send}
-use Rattle.state.specs.declared.Answer.{Answer}
+use Rattle.state.specs.Meaning.{Answer}
 use Rattle.state.specs.Meaning.{reply_of}
 use Rattle.state.specs.View.{view, view_of, figures}
 use Rattle.state.specs.Promise.{QueuesIn}

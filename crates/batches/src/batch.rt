@@ -9,7 +9,7 @@ ghost use Rattle.batches.specs.Batch.{form_of, widest, room_for, Prints, Answere
 ghost use Rattle.batches.specs.Alone.{LoneLine, LastLine};
 
 use lines::Counter;
-use state::Answer;
+use state::{Answer, Refusal, Shown};
 
 // The line of a record, the bench's or that of `watch`; returns the place behind it. The interrupt line is the caller's, so that this stays short enough for the compiler to have it in the loop.
 pub fn print(
@@ -25,7 +25,7 @@ pub fn print(
     requires { Counts counter × (length out.now ≡ 2052) × (at + widest watching + 10 ≤ length lines.old) }
     ensures { Prints watching counter.number answer sent up out.now lines.old at lines.new result × (result ≤ at + widest watching) }
 {
-    let shown = state::printed(answer);
+    let shown = Shown::from(answer);
     if !watching {
         return lines::line_at(lines, at, counter, shown);
     }
@@ -66,7 +66,7 @@ pub fn last_line(
     if kept == 0 {
         return 0;
     }
-    lone_line(watching, words, out, lines, number, Answer::CutShort)
+    lone_line(watching, words, out, lines, number, Err(Refusal::CutShort))
 }
 
 // Each complete record of the input; the lines stand before `end`.

@@ -9,7 +9,7 @@ ghost use Rattle.state.specs.Entry.{InOrder, Right, record_view, Whole, Leaves, 
 ghost use Rattle.chip.specs.Inputs.{access_of};
 
 use crate::order::in_order;
-use state::{Answer, Pages, Queues, Registers, Returned, Width};
+use state::{Answer, Pages, Queues, Refusal, Registers, Returned, Width};
 
 // What a driver asks for: a width and an offset, and the value of a write.
 #[derive(Drop)]
@@ -111,7 +111,7 @@ pub fn access(r: Registers, p: Pages, q: Queues, memory: &mut [u8], a: Request) 
     let answer = if in_order(&words, &sets, &slots, memory) {
         accessed(&mut words, &mut sets, &mut slots, memory, a)
     } else {
-        Answer::Damaged
+        Err(Refusal::Damaged)
     };
     let registers = Registers { words };
     let pages = Pages { sets };

@@ -1,7 +1,6 @@
 // Power-up, and the interrupt line.
 ghost use Rattle.std.specs.Prelude.{◌≡◌, length};
 ghost use Rattle.rules.specs.Chip.{paged};
-ghost use Rattle.state.specs.declared.Answer.TheVariants.{Done};
 ghost use Rattle.state.specs.Meaning.{packets_of};
 ghost use Rattle.state.specs.Entry.{StartedOf, Started, Lines};
 
@@ -10,7 +9,7 @@ use state::{Answer, Pages, Part, Queues, Registers, Returned};
 // The record of a part at power-up, whatever was in its places; those of no packet are 0.
 pub fn powered(words: &mut [u16], sets: &mut [u32], queues: &mut [u8], part: Part)
     requires { (length words.old ≡ 32) × (length sets.old ≡ 24) × (length queues.old ≡ 72) }
-    ensures { StartedOf paged (packets_of part) (Done 0) words.new sets.new queues.new }
+    ensures { StartedOf paged (packets_of part) (Ok 0) words.new sets.new queues.new }
 {
     let n = state::packets_of(part);
     reset::zeroed(words);
@@ -30,7 +29,7 @@ pub fn power_up(part: Part) -> Returned
     let registers = Registers { words };
     let pages = Pages { sets };
     let queues = Queues { slots };
-    let answer = Answer::Done(0);
+    let answer = Ok(0);
     Returned {
         answer,
         registers,

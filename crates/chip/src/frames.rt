@@ -7,7 +7,7 @@ ghost use Rattle.state.specs.Entry.{InOrder, Right, record_view, Whole, Leaves, 
 ghost use Rattle.judging.specs.Frames.{frame_of};
 
 use crate::order::in_order;
-use state::{Answer, Pages, Queues, Registers, Returned};
+use state::{Answer, Pages, Queues, Refusal, Registers, Returned};
 
 // The step below the public entry: no check is repeated here.
 pub fn arrived(
@@ -57,7 +57,7 @@ pub fn frame(
     let answer = if in_order(&words, &sets, &slots, memory) {
         arrived_whole(&mut words, &mut sets, &mut slots, memory, bytes, alignment)
     } else {
-        Answer::Damaged
+        Err(Refusal::Damaged)
     };
     let registers = Registers { words };
     let pages = Pages { sets };

@@ -6,7 +6,7 @@ ghost use Rattle.state.specs.View.{view};
 ghost use Rattle.state.specs.Entry.{InOrder, Right, record_view, Whole, Leaves, Answers};
 
 use crate::order::in_order;
-use state::{Answer, Pages, Queues, Registers, Returned};
+use state::{Answer, Pages, Queues, Refusal, Registers, Returned};
 
 // The step below the public entry: no check is repeated here.
 pub fn linked(words: &mut [u16], sets: &[u32], queues: &[u8], memory: &[u8], up: u8) -> Answer
@@ -35,7 +35,7 @@ pub fn link(r: Registers, p: Pages, q: Queues, memory: &[u8], up: u8) -> Returne
     let answer = if in_order(&words, &sets, &slots, memory) {
         linked_whole(&mut words, &sets, &slots, memory, up)
     } else {
-        Answer::Damaged
+        Err(Refusal::Damaged)
     };
     let registers = Registers { words };
     let pages = Pages { sets };

@@ -5,7 +5,7 @@ ghost use Rattle.state.specs.View.{view};
 ghost use Rattle.state.specs.Entry.{InOrder, Right, record_view, Whole, Leaves, Answers};
 
 use crate::order::in_order;
-use state::{Answer, Pages, Queues, Registers, Returned};
+use state::{Answer, Pages, Queues, Refusal, Registers, Returned};
 
 // The step below the public entry: no check is repeated here.
 pub fn finished(
@@ -74,7 +74,7 @@ pub fn send(
             &mut words, &mut sets, &mut slots, memory, out, outcome, collisions, deferral,
         )
     } else {
-        Answer::Damaged
+        Err(Refusal::Damaged)
     };
     let registers = Registers { words };
     let pages = Pages { sets };

@@ -19,7 +19,7 @@ pub use register::named;
 use register::{do_enqueue, do_release};
 pub use rx::do_remove;
 use rx::do_remove_and_release;
-use state::{Answer, NO_PACKET};
+use state::{Answer, NO_PACKET, Refusal};
 
 // The commands of the MMU command register.
 #[derive(Drop)]
@@ -42,10 +42,10 @@ fn do_allocate(words: &mut [u16], sets: &mut [u32], need: u32) -> Answer
 {
     if need <= pages::free_count(words) {
         pages::allocate(words, sets, need);
-        return Answer::Done(0);
+        return Ok(0);
     }
     pages::give_result(words, NO_PACKET, need as u16);
-    Answer::Done(0)
+    Ok(0)
 }
 
 fn do_reset(words: &mut [u16], sets: &mut [u32], queues: &mut [u8]) -> Answer
@@ -54,7 +54,7 @@ fn do_reset(words: &mut [u16], sets: &mut [u32], queues: &mut [u8]) -> Answer
 {
     pool::reset(words, sets, queues);
     pages::give_result(words, NO_PACKET, 0);
-    Answer::Done(0)
+    Ok(0)
 }
 
 pub fn do_reset_tx(words: &mut [u16], queues: &mut [u8]) -> Answer
@@ -63,7 +63,7 @@ pub fn do_reset_tx(words: &mut [u16], queues: &mut [u8]) -> Answer
 {
     pool::empty_tx(words, queues);
     pool::empty_completion(words, queues);
-    Answer::Done(0)
+    Ok(0)
 }
 
 // A write of the value to the MMU command register.
@@ -73,7 +73,7 @@ pub fn commanded(words: &mut [u16], sets: &mut [u32], queues: &mut [u8], value: 
 {
     let order = decoded(value);
     match order {
-        Order::Nothing => Answer::Done(0),
+        Order::Nothing => Ok(0),
         Order::Allocate(need) => do_allocate(words, sets, need),
         Order::Reset => do_reset(words, sets, queues),
         Order::RemoveRx => do_remove(words, queues),
@@ -81,6 +81,6 @@ pub fn commanded(words: &mut [u16], sets: &mut [u32], queues: &mut [u8], value: 
         Order::Release => do_release(words, sets),
         Order::Enqueue => do_enqueue(words, sets, queues),
         Order::ResetTx => do_reset_tx(words, queues),
-        Order::Unknown => Answer::Reserved,
+        Order::Unknown => Err(Refusal::Reserved),
     }
 }

@@ -9,7 +9,7 @@ ghost use Rattle.state.specs.Promise.{SetsIn, Ready};
 ghost use Rattle.commands.specs.Orders.{Performs};
 
 use sets::Packet;
-use state::{Answer, PACKET};
+use state::{Answer, PACKET, Refusal};
 
 // The packet that the register names.
 pub fn named(words: &[u16]) -> Packet
@@ -32,13 +32,13 @@ pub fn do_release(words: &mut [u16], sets: &mut [u32]) -> Answer
 {
     let packet = named(words);
     if !is_allocated(sets, packet) {
-        return Answer::NotAllocated;
+        return Err(Refusal::NotAllocated);
     }
     if pool::is_queued(words, packet) {
-        return Answer::StillQueued;
+        return Err(Refusal::StillQueued);
     }
     pages::give_back(words, sets, packet);
-    Answer::Done(0)
+    Ok(0)
 }
 
 pub fn do_enqueue(words: &mut [u16], sets: &[u32], queues: &mut [u8]) -> Answer
@@ -47,11 +47,11 @@ pub fn do_enqueue(words: &mut [u16], sets: &[u32], queues: &mut [u8]) -> Answer
 {
     let packet = named(words);
     if !is_allocated(sets, packet) {
-        return Answer::NotAllocated;
+        return Err(Refusal::NotAllocated);
     }
     if pool::is_queued(words, packet) {
-        return Answer::StillQueued;
+        return Err(Refusal::StillQueued);
     }
     pool::join_tx(words, queues, packet);
-    Answer::Done(0)
+    Ok(0)
 }

@@ -6,17 +6,17 @@ ghost use Rattle.state.specs.View.{figures, Kept};
 ghost use Rattle.state.specs.Promise.{QueuesIn, PagesIn, Ready};
 ghost use Rattle.commands.specs.Orders.{PerformsOf, Performs};
 
-use state::{Answer, RX_COUNT};
+use state::{Answer, RX_COUNT, Refusal};
 
 pub fn do_remove(words: &mut [u16], queues: &mut [u8]) -> Answer
     requires { Kept words.old × QueuesIn (figures words.old) queues.old × ((l : Layout) × (s : List ℕ) × PagesIn l (figures words.old) s) }
     ensures { (l : Layout) (s : List ℕ) → PagesIn l (figures words.old) s → PerformsOf l rules.remove_rx words.old s queues.old result words.new s queues.new }
 {
     if words[RX_COUNT] == 0 {
-        return Answer::RxEmpty;
+        return Err(Refusal::RxEmpty);
     }
     pool::leave_rx(words, queues);
-    Answer::Done(0)
+    Ok(0)
 }
 
 pub fn do_remove_and_release(words: &mut [u16], sets: &mut [u32], queues: &mut [u8]) -> Answer
@@ -24,9 +24,9 @@ pub fn do_remove_and_release(words: &mut [u16], sets: &mut [u32], queues: &mut [
     ensures { Performs rules.remove_and_release words.old sets.old queues.old result words.new sets.new queues.new }
 {
     if words[RX_COUNT] == 0 {
-        return Answer::RxEmpty;
+        return Err(Refusal::RxEmpty);
     }
     let head = pool::leave_rx(words, queues);
     pages::give_back(words, sets, head);
-    Answer::Done(0)
+    Ok(0)
 }

@@ -9,7 +9,7 @@ use Rattle.rules.specs.Packet.{place, get_bytes, put_bytes}
 use Rattle.rules.specs.Data.{rcv, against, odd_fixed, past, address, next, moved, value_of}
 use Rattle.lists.specs.Bytes.{Below}
 use Rattle.sets.specs.Views.{pages_of}
-use Rattle.state.specs.declared.Answer.{Answer}
+use Rattle.state.specs.Meaning.{Answer}
 use Rattle.state.specs.Meaning.{reply_of}
 use Rattle.state.specs.View.{word, queue_in, lists_of, view, Kept}
 use Rattle.state.specs.Promise.{Sound, Makes}

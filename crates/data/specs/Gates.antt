@@ -16,7 +16,7 @@ use Rattle.rules.specs.Data.{rcv, against, odd_fixed, past, address, if_packet, 
 use Rattle.lists.specs.Facts.{or_left, or_right, member_first, member_later}
 use Rattle.lists.specs.Bytes.{Below, place_room}
 use Rattle.wellformed.specs.Parts.{part_few}
-use Rattle.state.specs.declared.Answer.{Answer}
+use Rattle.state.specs.Meaning.{Answer}
 use Rattle.state.specs.Meaning.{reply_of}
 use Rattle.state.specs.View.{word, view_of}
 use Rattle.state.specs.Promise.{ReadyOf, Ready, MakesOf}

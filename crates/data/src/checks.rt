@@ -10,7 +10,7 @@ ghost use Rattle.data.specs.Access.{meant_in, pages_meant, refusal_if, Guards};
 
 use crate::Gate;
 use sets::{Address, Packet};
-use state::{Answer, PACKET, PAGE_BYTES, PLACES, POINTER, RX_COUNT, flags};
+use state::{Answer, PACKET, PAGE_BYTES, PLACES, POINTER, RX_COUNT, Refusal, flags};
 
 // RCV set means the head of RX, clear means the packet number register. No packet of either part has the number PLACES, which stands for the head of an empty RX.
 pub fn meant(words: &[u16], queues: &[u8]) -> Packet
@@ -52,17 +52,17 @@ pub fn refusal(has_pages: bool, reading: bool, pointer: u16) -> Answer
 {
     if !has_pages {
         if bits::is_set(pointer, flags::RCV) {
-            return Answer::RxEmpty;
+            return Err(Refusal::RxEmpty);
         }
-        return Answer::NotAllocated;
+        return Err(Refusal::NotAllocated);
     }
     if is_against(pointer, reading) {
-        return Answer::AgainstRead;
+        return Err(Refusal::AgainstRead);
     }
     if is_odd_fixed(pointer) {
-        return Answer::OddPointer;
+        return Err(Refusal::OddPointer);
     }
-    Answer::PastPages
+    Err(Refusal::PastPages)
 }
 
 // Where byte `at` of the set's lowest page lies in memory.

@@ -39,7 +39,7 @@ pub fn read_data(
         Gate::Refused(answer) => answer,
         Gate::Open(i, rest) => {
             if !wide {
-                return Answer::Done(reads::read_byte(words, memory, i, rest));
+                return Ok(reads::read_byte(words, memory, i, rest));
             }
             reads::read_word(words, memory, i, rest)
         }

@@ -10,7 +10,7 @@ use Rattle.rules.specs.Answers.{Reply, Turn, refusal}
 use Rattle.rules.specs.Step.{Input, lent, step, step_of, run_of}
 use Rattle.wellformed.proofs.Parts.{step_of_part}
 use Rattle.laws.specs.Layout.{size_stays}
-use Rattle.state.specs.declared.Answer.{Answer}
+use Rattle.state.specs.Meaning.{Answer}
 use Rattle.state.specs.Meaning.{reply_of}
 use Rattle.state.specs.Entry.{size_in, record_view, HoldsOf, WholeOf, AnswersOf, StartedOf, LinesOf, zeros}
 use Rattle.state.specs.Places.{names_part, places_told}

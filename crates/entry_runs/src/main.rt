@@ -9,7 +9,7 @@
 ghost use Rattle.std.specs.Prelude.{◌≡◌, ◌+◌, ◌*◌, ◌≤◌, length};
 
 use chip::Request;
-use state::{Answer, Pages, Queues, Registers, Returned, Width};
+use state::{Answer, Pages, Queues, Refusal, Registers, Returned, Shown, Width};
 use std::io::Print;
 
 // The bytes of a case.
@@ -154,7 +154,7 @@ fn served(
         7 => sent(registers, pages, queues, memory, wire, asked),
         8 => chip::link(registers, pages, queues, memory, asked[1]),
         _ => Returned {
-            answer: Answer::CutShort,
+            answer: Err(Refusal::CutShort),
             registers,
             pages,
             queues,
@@ -255,7 +255,7 @@ fn write_line(rt: &impl Print, line: &[u8; 20]) {
 
 fn print_line(rt: &impl Print, x: Returned) {
     let answer = x.answer;
-    let shown = state::printed(answer);
+    let shown = Shown::from(answer);
     let mut line = *b"NN VVVVV SSSSSSSSSS\n";
     put(&mut line, 0, 2, shown.0 as u32);
     put(&mut line, 3, 8, shown.1 as u32);

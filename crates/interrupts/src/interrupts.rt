@@ -120,8 +120,8 @@ pub fn write_interrupt(
 {
     words[INTERRUPT] = high_only(state::merged(width, offset, value, words[INTERRUPT]));
     if state::is_high(width, offset) {
-        return Answer::Done(0);
+        return Ok(0);
     }
     acknowledge(words, queues, value);
-    Answer::Done(0)
+    Ok(0)
 }

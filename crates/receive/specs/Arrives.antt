@@ -4,7 +4,7 @@ use Rattle.std.proofs.Common.{sym, ◌∙◌, lt-ltb, le-ltb}
 use Rattle.rules.specs.Chip.{Layout}
 use Rattle.rules.specs.Answers.{done_with, refuse}
 use Rattle.rules.specs.Receive.{Frame, value_for, stow, after, judge, arrive}
-use Rattle.state.specs.declared.Answer.{Answer}
+use Rattle.state.specs.Meaning.{Answer}
 use Rattle.state.specs.Meaning.{reply_of}
 use Rattle.state.specs.View.{word, registers_in, view_of}
 use Rattle.state.specs.Promise.{ReadyOf, Does, MakesOf, does_makes}

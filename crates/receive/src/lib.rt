@@ -14,7 +14,7 @@ ghost use Rattle.judging.specs.Verdicts.{arrival_of};
 ghost use Rattle.receive.specs.Arrivals.{is_stored, turned_away};
 
 use judging::{Verdict, judged};
-use state::{Answer, LATCHES, RCR, flags};
+use state::{Answer, LATCHES, RCR, Refusal, flags};
 
 // Is the frame stored?
 pub fn is_stored(verdict: Verdict) -> bool
@@ -36,7 +36,7 @@ fn aborted(words: &mut [u16], value: u16) -> Answer
     ensures { Does (λ c. done_with value (in_registers abort c)) words.old result words.new }
 {
     words[RCR] = bits::with_set(words[RCR], flags::RX_ABORT);
-    Answer::Done(value)
+    Ok(value)
 }
 
 // And for want of room, RX_OVRN.
@@ -55,11 +55,11 @@ pub fn turned_away(words: &mut [u16], verdict: Verdict) -> Answer
 {
     match verdict {
         // not here
-        Verdict::Stored => Answer::Done(0),
-        Verdict::Disabled => Answer::Done(1),
-        Verdict::NotAccepted => Answer::Done(2),
+        Verdict::Stored => Ok(0),
+        Verdict::Disabled => Ok(1),
+        Verdict::NotAccepted => Ok(2),
         Verdict::TooLong => aborted(words, 3),
-        Verdict::Bad => Answer::Done(4),
+        Verdict::Bad => Ok(4),
         Verdict::NoRoom => overrun(words, 5),
     }
 }
@@ -77,7 +77,7 @@ pub fn arrived(
     ensures { Makes (arrive (frame_of frame.now alignment) (view words.old sets.old queues.old memory.old)) result words.new sets.new queues.new memory.new }
 {
     if frame.len() < 18 {
-        return Answer::OutsideLimits;
+        return Err(Refusal::OutsideLimits);
     }
     let verdict = judged(words, frame, alignment);
     if !is_stored(verdict) {

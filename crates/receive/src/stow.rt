@@ -29,5 +29,5 @@ pub fn stowed(
     let pages = pages::grant(words, sets, number, pages_for(n));
     packet::store_frame(memory, pages, status, count_of(n), frame, n);
     pool::join_rx(words, queues, number);
-    Answer::Done(0)
+    Ok(0)
 }

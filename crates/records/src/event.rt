@@ -5,7 +5,7 @@ ghost use Rattle.rules.specs.Watch.{is_send};
 ghost use Rattle.state.specs.Meaning.{packets_named};
 ghost use Rattle.records.specs.Event.{meant};
 
-use state::{Named, Width};
+use state::{Part, Width};
 
 // Width, offset and value of an access, the count of wire bytes, the flag alignment, a send's outcome, collisions and deferral, the link's byte, and the part's.
 #[derive(Drop)]
@@ -40,12 +40,12 @@ pub fn event_of(bytes: &[u8]) -> Event
 }
 
 // The part that a record asks for, if it asks for one.
-pub fn part_asked(bytes: &[u8]) -> Named
+pub fn part_asked(bytes: &[u8]) -> Option<Part>
     requires { length bytes.now ≡ 8 }
     ensures { packets_named result ≡ asks_for (event_of bytes.now) }
 {
     if bytes[0] != 9 {
-        return Named::Unknown;
+        return None;
     }
     state::part_named(bytes[1])
 }

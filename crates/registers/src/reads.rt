@@ -52,7 +52,7 @@ pub fn ephsr(words: &[u16]) -> u16
 pub fn read_ecr(words: &mut [u16]) -> u16
     requires { Kept words.old }
     ensures value { result ≡ word words.old 3 }
-    ensures done { (p : rules.Lanes) → Does (rules.read_register rules.ECR p) words.old (Answer.Done (rules.taken p result)) words.new }
+    ensures done { (p : rules.Lanes) → Does (rules.read_register rules.ECR p) words.old (Ok (rules.taken p result)) words.new }
     ensures long { length words.new ≡ 32 }
 {
     let ecr = words[ECR];

@@ -13,7 +13,7 @@ use Rattle.rules.specs.Link.{shown, shown_ephsr}
 use Rattle.rules.specs.Send.{Send, in_limits, outcome_bits, address_bits, any_at15, tally, new_ephsr, sent_registers, retire, status_word, status_written}
 use Rattle.lists.specs.Facts.{is_true, le_decides, ◌and◌, member_at}
 use Rattle.wellformed.specs.Pool.{has_small}
-use Rattle.state.specs.declared.Answer.{Answer}
+use Rattle.state.specs.Meaning.{Answer}
 use Rattle.state.specs.Meaning.{reply_of}
 use Rattle.state.specs.View.{word, registers_in, figures, queue_in, lists_of, view_of}
 use Rattle.state.specs.Promise.{QueuesIn, SoundOf, ReadyOf}

@@ -13,7 +13,7 @@ use crate::output::{LEAST_COUNT, is_past, put_out};
 use on_wire::OUTPUT_BYTES;
 use outcomes::{Send, after_send, is_full, is_good, is_released, is_within, retire};
 use sets::Address;
-use state::{Answer, COMPLETION_COUNT, CONTROL, EPHSR, LINK, TCR, TX_COUNT, flags};
+use state::{Answer, COMPLETION_COUNT, CONTROL, EPHSR, LINK, Refusal, TCR, TX_COUNT, flags};
 
 // What a send does once its bytes are out: registers, TX, the status word, and what becomes of the packet. `pages` are those of the TX head.
 fn complete(
@@ -51,22 +51,22 @@ fn send_head(
     let pages = sets::set_of(sets, pool::tx_head(queues));
     let count = packet::read_word(memory, pages, Address(2));
     if bits::is_set(count, 0) {
-        return Answer::OddCount(count);
+        return Err(Refusal::OddCount(count));
     }
     if count < LEAST_COUNT {
-        return Answer::ShortCount(count);
+        return Err(Refusal::ShortCount(count));
     }
     if is_past(count, sets::page_count(pages)) {
-        return Answer::LongCount(count);
+        return Err(Refusal::LongCount(count));
     }
     let good = is_good(words[TCR], s.outcome);
     let released = is_released(good, words[CONTROL]);
     if is_full(released, words[COMPLETION_COUNT], sets.len()) {
-        return Answer::CompletionFull;
+        return Err(Refusal::CompletionFull);
     }
     let value = put_out(memory, pages, words[TCR], count, out);
     complete(words, sets, queues, memory, pages, s, good, released);
-    Answer::Done(value)
+    Ok(value)
 }
 
 // A send finishes, on a chip that is well formed.
@@ -84,7 +84,7 @@ pub fn finished(
     ensures { Sends (rules.finish (record { outcome = outcome; collisions = collisions; deferral = deferral }) (view words.old sets.old queues.old memory.old) out.old) result words.new sets.new queues.new memory.new out.new }
 {
     if out.len() < OUTPUT_BYTES {
-        return Answer::ShortOutput;
+        return Err(Refusal::ShortOutput);
     }
     let s = Send {
         outcome,
@@ -92,13 +92,13 @@ pub fn finished(
         deferral,
     };
     if !is_within(s) {
-        return Answer::OutsideLimits;
+        return Err(Refusal::OutsideLimits);
     }
     if !bits::is_set(words[TCR], flags::TXENA) {
-        return Answer::NothingToSend;
+        return Err(Refusal::NothingToSend);
     }
     if words[TX_COUNT] == 0 {
-        return Answer::NothingToSend;
+        return Err(Refusal::NothingToSend);
     }
     send_head(words, sets, queues, memory, out, s)
 }

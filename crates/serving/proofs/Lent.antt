@@ -6,7 +6,7 @@ use native.Mathlib.Omega.{arith}
 use lib.ListN.{take, replicate}
 use Rattle.rules.specs.Chip.{paged}
 use Rattle.wellformed.specs.Parts.{part_few}
-use Rattle.state.specs.declared.Answer.{Answer}
+use Rattle.state.specs.Meaning.{Answer}
 use Rattle.state.specs.declared.part.Part.{Part}
 use Rattle.state.specs.Meaning.{packets_of}
 use Rattle.state.specs.Entry.{size_in, Whole, StartedOf}

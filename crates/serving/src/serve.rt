@@ -8,7 +8,7 @@ ghost use Rattle.batches.specs.Batch.{room_for};
 ghost use Rattle.serving.specs.Fills.{FillsMore};
 
 use batches::{answer_all, last_line, lone_line};
-use state::{Answer, Named, Part};
+use state::{Answer, Part};
 use streams::{Reading, StandardStreams};
 
 // The bytes behind the last complete record go to the front; returns how many they are.
@@ -162,7 +162,7 @@ fn write_asked(
     if !asked {
         return true;
     }
-    let end = lone_line(watching, words, out, lines, 1, Answer::Done(0));
+    let end = lone_line(watching, words, out, lines, 1, Ok(0));
     write_lines(rt, program, lines, end, 1)
 }
 
@@ -291,10 +291,10 @@ struct Opening {
     asked: bool,
 }
 
-fn opens_with(named: Named) -> Opening {
+fn opens_with(named: Option<Part>) -> Opening {
     match named {
-        Named::Known(part) => Opening { part, asked: true },
-        Named::Unknown => Opening {
+        Some(part) => Opening { part, asked: true },
+        None => Opening {
             part: Part::Lan91c96,
             asked: false,
         },

@@ -6,7 +6,7 @@ ghost use Rattle.lent.specs.Lent.{wide};
 ghost use Rattle.skarvoya.specs.Calls.{Calls};
 
 use lent::{in_order, told, width_of};
-use state::Answer;
+use state::{Answer, Refusal};
 
 // Reads a word or a byte.
 pub fn skarvoya_read(
@@ -20,7 +20,7 @@ pub fn skarvoya_read(
     ensures { Calls (rules.driver (registers.read (wide word) offset)) words.old sets.now queues.now memory.now result words.new sets.now queues.now memory.now [] }
 {
     if !in_order(words, sets, queues, memory) {
-        return told(Answer::Damaged);
+        return told(Err(Refusal::Damaged));
     }
     told(chip::read_whole(words, sets, queues, memory, width_of(word), offset))
 }
@@ -38,7 +38,7 @@ pub fn skarvoya_write(
     ensures { Calls (rules.driver (registers.write (wide word) offset value)) words.old sets.old queues.old memory.old result words.new sets.new queues.new memory.new [] }
 {
     if !in_order(words, sets, queues, memory) {
-        return told(Answer::Damaged);
+        return told(Err(Refusal::Damaged));
     }
     told(chip::write_whole(words, sets, queues, memory, width_of(word), offset, value))
 }

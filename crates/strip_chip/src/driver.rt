@@ -12,7 +12,7 @@ ghost use Rattle.chip.specs.Inputs.{access_of};
 use crate::order::in_order;
 use crate::{Returned, Strips};
 use chip::Request;
-use state::{Answer, Queues, Registers, Width};
+use state::{Answer, Queues, Refusal, Registers, Width};
 
 // A read below the public entry: no check is repeated here.
 pub fn read(
@@ -83,7 +83,7 @@ pub fn access(r: Registers, p: Strips, q: Queues, memory: &mut [u8], a: Request)
     let answer = if in_order(&words, &counts, &slots, memory) {
         accessed_whole(&mut words, &mut counts, &mut slots, memory, a)
     } else {
-        Answer::Damaged
+        Err(Refusal::Damaged)
     };
     let registers = Registers { words };
     let strips = Strips { counts };

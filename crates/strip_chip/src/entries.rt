@@ -1,7 +1,6 @@
 // Power-up, and the interrupt line.
 ghost use Rattle.std.specs.Prelude.{◌≡◌, length, replicate};
 ghost use Rattle.rules.specs.Chip.{strips};
-ghost use Rattle.state.specs.declared.Answer.TheVariants.{Done};
 ghost use Rattle.state.specs.Meaning.{packets_of};
 ghost use Rattle.state.specs.Entry.{StartedOf};
 ghost use Rattle.strip_chip.specs.Entry.{Started, Lines};
@@ -12,7 +11,7 @@ use state::{Answer, Part, Queues, Registers};
 // The record of a part at power-up, in places that are 0: those of no packet stay so.
 fn powered(words: &mut [u16], counts: &mut [u32], queues: &mut [u8], part: Part)
     requires { (words.old ≡ replicate 32 0) × (counts.old ≡ replicate 24 0) × (length queues.old ≡ 72) }
-    ensures { StartedOf strips (packets_of part) (Done 0) words.new counts.new queues.new }
+    ensures { StartedOf strips (packets_of part) (Ok 0) words.new counts.new queues.new }
 {
     let n = state::packets_of(part);
     reset::reset_words(words);
@@ -30,7 +29,7 @@ pub fn power_up(part: Part) -> Returned
     let registers = Registers { words };
     let strips = Strips { counts };
     let queues = Queues { slots };
-    let answer = Answer::Done(0);
+    let answer = Ok(0);
     Returned {
         answer,
         registers,

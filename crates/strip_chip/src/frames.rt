@@ -9,7 +9,7 @@ ghost use Rattle.judging.specs.Frames.{frame_of};
 
 use crate::order::in_order;
 use crate::{Returned, Strips};
-use state::{Answer, Queues, Registers};
+use state::{Answer, Queues, Refusal, Registers};
 
 // The step below the public entry: no check is repeated here.
 pub fn arrived(
@@ -66,7 +66,7 @@ pub fn frame(
             alignment,
         )
     } else {
-        Answer::Damaged
+        Err(Refusal::Damaged)
     };
     let registers = Registers { words };
     let strips = Strips { counts };

@@ -8,7 +8,7 @@ ghost use Rattle.strip_chip.specs.Entry.{Answers};
 
 use crate::order::in_order;
 use crate::{Returned, Strips};
-use state::{Answer, Queues, Registers};
+use state::{Answer, Queues, Refusal, Registers};
 
 // The step below the public entry: no check is repeated here.
 pub fn linked(words: &mut [u16], counts: &[u32], queues: &[u8], memory: &[u8], up: u8) -> Answer
@@ -37,7 +37,7 @@ pub fn link(r: Registers, p: Strips, q: Queues, memory: &[u8], up: u8) -> Return
     let answer = if in_order(&words, &counts, &slots, memory) {
         linked_whole(&mut words, &counts, &slots, memory, up)
     } else {
-        Answer::Damaged
+        Err(Refusal::Damaged)
     };
     let registers = Registers { words };
     let strips = Strips { counts };

@@ -7,7 +7,7 @@ ghost use Rattle.strip_chip.specs.Entry.{Answers};
 
 use crate::order::in_order;
 use crate::{Returned, Strips};
-use state::{Answer, Queues, Registers};
+use state::{Answer, Queues, Refusal, Registers};
 
 // The step below the public entry: no check is repeated here.
 pub fn finished(
@@ -83,7 +83,7 @@ pub fn send(
             deferral,
         )
     } else {
-        Answer::Damaged
+        Err(Refusal::Damaged)
     };
     let registers = Registers { words };
     let strips = Strips { counts };

@@ -11,7 +11,7 @@ ghost use Rattle.turns.specs.Served.{asked, ServedOf};
 ghost use Rattle.strip_serving.specs.First.{answers_on, starts_as, AskedBy, Opens};
 
 use lines::Counter;
-use state::{Answer, Named, Part};
+use state::{Answer, Part, Shown};
 use streams::StandardStreams;
 use strip_turns::answer;
 
@@ -31,7 +31,7 @@ fn turn(
     ensures { (number : ℕ) → Opens started number bytes.now (holding (view_of strips words.old counts.old queues.old memory.old) (take have.old wire.old) out.old) → TurnsOf strips (answer_to number (asked bytes.now) (answers_on started (holding (view_of strips words.old counts.old queues.old memory.old) (take have.old wire.old) out.old))) result words.new counts.new queues.new memory.new wire.new have.new out.new }
 {
     if started {
-        return Answer::Done(0);
+        return Ok(0);
     }
     answer(words, counts, queues, memory, wire, have, out, bytes)
 }
@@ -57,16 +57,16 @@ fn serve_record(
     let given = turn(
         words, counts, queues, memory, wire, have, out, bytes, started,
     );
-    lines::line_at(line, 0, counter, state::printed(given))
+    lines::line_at(line, 0, counter, Shown::from(given))
 }
 
 // The part that record 1 asks for, if it has eight bytes and asks for one.
-fn part_in(bytes: &[u8]) -> Named
+fn part_in(bytes: &[u8]) -> Option<Part>
     requires { length bytes.now ≤ 8 }
     ensures { packets_named result ≡ asks_for (asked bytes.now) }
 {
     if bytes.len() < 8 {
-        return Named::Unknown;
+        return None;
     }
     records::part_asked(bytes)
 }
@@ -86,8 +86,8 @@ fn opens_with(bytes: &[u8]) -> Opening
 {
     let named = part_in(bytes);
     match named {
-        Named::Known(part) => Opening { part, asked: true },
-        Named::Unknown => Opening {
+        Some(part) => Opening { part, asked: true },
+        None => Opening {
             part: Part::Lan91c96,
             asked: false,
         },

@@ -74,7 +74,7 @@ pub fn read_data(
     }
     let value = value_at(memory, packet, Address(pointer % 2048), wide);
     data::advance(words, width);
-    Answer::Done(value)
+    Ok(value)
 }
 
 pub fn write_data(
@@ -97,5 +97,5 @@ pub fn write_data(
     }
     put_at(memory, packet, Address(pointer % 2048), wide, value);
     data::advance(words, width);
-    Answer::Done(0)
+    Ok(0)
 }

@@ -10,7 +10,7 @@ ghost use Rattle.receive.specs.Arrivals.{StowableOf};
 
 use judging::{count_of, data_length, judged, pages_for, status_of};
 use receive::{is_stored, turned_away};
-use state::{Answer, CONTROL, RCR};
+use state::{Answer, CONTROL, RCR, Refusal};
 
 // A frame that is stored takes the lowest unallocated number, and of that number's strip as many pages as it needs; the number goes to the end of RX.
 fn stowed(
@@ -30,7 +30,7 @@ fn stowed(
     strips::grant(words, counts, packet, pages_for(n));
     strip_bytes::store_frame(memory, packet, status, count_of(n), frame, n);
     pool::join_rx(words, queues, packet);
-    Answer::Done(0)
+    Ok(0)
 }
 
 // A frame arrives at a chip that is well formed: its bytes with FCS, and the flag alignment.
@@ -46,7 +46,7 @@ pub fn arrived(
     ensures { MakesOf strips (arrive (frame_of frame.now alignment) (view_of strips words.old counts.old queues.old memory.old)) result words.new counts.new queues.new memory.new }
 {
     if frame.len() < 18 {
-        return Answer::OutsideLimits;
+        return Err(Refusal::OutsideLimits);
     }
     let verdict = judged(words, frame, alignment);
     if !is_stored(verdict) {

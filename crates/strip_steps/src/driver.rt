@@ -10,7 +10,7 @@ use crate::access::{read_data, write_data};
 use crate::orders::write_command;
 use crate::resets::write_rcr;
 use accesses::{DATA, DATA_1};
-use state::{Answer, COMMAND, ECR, RCR, Width};
+use state::{Answer, COMMAND, ECR, RCR, Refusal, Width};
 
 // A read: of ECR, of another register, or behind the match of data, which has two places.
 pub fn read(
@@ -25,7 +25,7 @@ pub fn read(
     ensures { MakesOf strips (rules.access (rules.read (width_of width) offset) (view_of strips words.old counts.now queues.now memory.now)) result words.new counts.now queues.now memory.now }
 {
     if state::misplaced(width, offset) {
-        return Answer::Misplaced;
+        return Err(Refusal::Misplaced);
     }
     let at = accesses::place(words, offset);
     match at {
@@ -51,7 +51,7 @@ pub fn write(
     ensures { MakesOf strips (rules.access (rules.write (width_of width) offset value) (view_of strips words.old counts.old queues.old memory.old)) result words.new counts.new queues.new memory.new }
 {
     if state::misplaced(width, offset) {
-        return Answer::Misplaced;
+        return Err(Refusal::Misplaced);
     }
     let at = accesses::place(words, offset);
     match at {

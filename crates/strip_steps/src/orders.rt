@@ -10,7 +10,7 @@ ghost use Rattle.state.specs.Promise.{QueuesIn, PagesIn, SoundOf, ReadyOf, Makes
 ghost use Rattle.commands.specs.Orders.{PerformsOf};
 
 use commands::{Order, named};
-use state::{Answer, NO_PACKET, RX_COUNT, Width};
+use state::{Answer, NO_PACKET, RX_COUNT, Refusal, Width};
 
 // Enough pages are free, or the request waits for them.
 fn do_allocate(words: &mut [u16], counts: &mut [u32], need: u32) -> Answer
@@ -19,10 +19,10 @@ fn do_allocate(words: &mut [u16], counts: &mut [u32], need: u32) -> Answer
 {
     if need <= pages::free_count(words) {
         strips::allocate(words, counts, need);
-        return Answer::Done(0);
+        return Ok(0);
     }
     pages::give_result(words, NO_PACKET, need as u16);
-    Answer::Done(0)
+    Ok(0)
 }
 
 // No packet has pages, no queue has entries, and no request waits.
@@ -32,7 +32,7 @@ fn do_reset(words: &mut [u16], counts: &mut [u32], queues: &mut [u8]) -> Answer
 {
     strips::reset(words, counts, queues);
     pages::give_result(words, NO_PACKET, 0);
-    Answer::Done(0)
+    Ok(0)
 }
 
 // The RX head leaves RX and gives its pages back: refusal 7 where RX is empty.
@@ -41,11 +41,11 @@ fn do_remove_and_release(words: &mut [u16], counts: &mut [u32], queues: &mut [u8
     ensures { PerformsOf strips rules.remove_and_release words.old counts.old queues.old result words.new counts.new queues.new }
 {
     if words[RX_COUNT] == 0 {
-        return Answer::RxEmpty;
+        return Err(Refusal::RxEmpty);
     }
     let head = pool::leave_rx(words, queues);
     strips::give_back(words, counts, head);
-    Answer::Done(0)
+    Ok(0)
 }
 
 // The packet that the packet number register names gives its pages back: refusal 5 where it has none, 6 where it is in RX or TX.
@@ -55,13 +55,13 @@ fn do_release(words: &mut [u16], counts: &mut [u32]) -> Answer
 {
     let packet = named(words);
     if !strips::is_allocated(counts, packet) {
-        return Answer::NotAllocated;
+        return Err(Refusal::NotAllocated);
     }
     if pool::is_queued(words, packet) {
-        return Answer::StillQueued;
+        return Err(Refusal::StillQueued);
     }
     strips::give_back(words, counts, packet);
-    Answer::Done(0)
+    Ok(0)
 }
 
 // The packet that the register names joins TX: refusals 5 and 6 as above.
@@ -71,13 +71,13 @@ fn do_enqueue(words: &mut [u16], counts: &[u32], queues: &mut [u8]) -> Answer
 {
     let packet = named(words);
     if !strips::is_allocated(counts, packet) {
-        return Answer::NotAllocated;
+        return Err(Refusal::NotAllocated);
     }
     if pool::is_queued(words, packet) {
-        return Answer::StillQueued;
+        return Err(Refusal::StillQueued);
     }
     pool::join_tx(words, queues, packet);
-    Answer::Done(0)
+    Ok(0)
 }
 
 // A write of the value to the MMU command register.
@@ -87,7 +87,7 @@ pub fn commanded(words: &mut [u16], counts: &mut [u32], queues: &mut [u8], value
 {
     let order = commands::decoded(value);
     match order {
-        Order::Nothing => Answer::Done(0),
+        Order::Nothing => Ok(0),
         Order::Allocate(need) => do_allocate(words, counts, need),
         Order::Reset => do_reset(words, counts, queues),
         Order::RemoveRx => commands::do_remove(words, queues),
@@ -95,7 +95,7 @@ pub fn commanded(words: &mut [u16], counts: &mut [u32], queues: &mut [u8], value
         Order::Release => do_release(words, counts),
         Order::Enqueue => do_enqueue(words, counts, queues),
         Order::ResetTx => commands::do_reset_tx(words, queues),
-        Order::Unknown => Answer::Reserved,
+        Order::Unknown => Err(Refusal::Reserved),
     }
 }
 
@@ -112,7 +112,7 @@ pub fn write_command(
     ensures { (mem : List ℕ) → MakesOf strips (write_register COMMAND (lanes_at (width_of width) offset) value (view_of strips words.old counts.old queues.old mem)) result words.new counts.new queues.new mem }
 {
     if state::is_high(width, offset) {
-        return Answer::ReadOnly;
+        return Err(Refusal::ReadOnly);
     }
     commanded(words, counts, queues, bits::low_byte(value))
 }

@@ -36,8 +36,8 @@ pub fn write_rcr(
     let rcr = new_rcr(width, offset, value, words[RCR]);
     if bits::is_set(rcr, flags::SOFT_RST) {
         soft_reset(words, counts, queues);
-        return Answer::Done(0);
+        return Ok(0);
     }
     words[RCR] = rcr;
-    Answer::Done(0)
+    Ok(0)
 }

@@ -13,7 +13,7 @@ use on_wire::OUTPUT_BYTES;
 use outcomes::{Send, after_send, is_full, is_good, is_released, is_within};
 use sending::{LEAST_COUNT, is_past};
 use sets::{Address, Packet};
-use state::{Answer, COMPLETION_COUNT, CONTROL, EPHSR, LINK, TCR, TX_COUNT, flags};
+use state::{Answer, COMPLETION_COUNT, CONTROL, EPHSR, LINK, Refusal, TCR, TX_COUNT, flags};
 use strip_output::{address_bits, put_out};
 
 // The packet is released, or its number joins completion.
@@ -64,22 +64,22 @@ fn send_head(
     let packet = pool::tx_head(queues);
     let count = strip_bytes::read_word(memory, packet, Address(2));
     if bits::is_set(count, 0) {
-        return Answer::OddCount(count);
+        return Err(Refusal::OddCount(count));
     }
     if count < LEAST_COUNT {
-        return Answer::ShortCount(count);
+        return Err(Refusal::ShortCount(count));
     }
     if is_past(count, strips::pages_of(counts, packet)) {
-        return Answer::LongCount(count);
+        return Err(Refusal::LongCount(count));
     }
     let good = is_good(words[TCR], s.outcome);
     let released = is_released(good, words[CONTROL]);
     if is_full(released, words[COMPLETION_COUNT], counts.len()) {
-        return Answer::CompletionFull;
+        return Err(Refusal::CompletionFull);
     }
     let value = put_out(memory, packet, words[TCR], count, out);
     complete(words, counts, queues, memory, packet, s, good, released);
-    Answer::Done(value)
+    Ok(value)
 }
 
 // A send finishes, on a chip that is well formed.
@@ -97,7 +97,7 @@ pub fn finished(
     ensures { SendsOf strips (rules.finish (record { outcome = outcome; collisions = collisions; deferral = deferral }) (view_of strips words.old counts.old queues.old memory.old) out.old) result words.new counts.new queues.new memory.new out.new }
 {
     if out.len() < OUTPUT_BYTES {
-        return Answer::ShortOutput;
+        return Err(Refusal::ShortOutput);
     }
     let s = Send {
         outcome,
@@ -105,13 +105,13 @@ pub fn finished(
         deferral,
     };
     if !is_within(s) {
-        return Answer::OutsideLimits;
+        return Err(Refusal::OutsideLimits);
     }
     if !bits::is_set(words[TCR], flags::TXENA) {
-        return Answer::NothingToSend;
+        return Err(Refusal::NothingToSend);
     }
     if words[TX_COUNT] == 0 {
-        return Answer::NothingToSend;
+        return Err(Refusal::NothingToSend);
     }
     send_head(words, counts, queues, memory, out, s)
 }

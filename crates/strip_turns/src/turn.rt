@@ -11,7 +11,7 @@ ghost use Rattle.turns.specs.Turns.{HeldOf, TurnsOf};
 ghost use Rattle.turns.specs.Served.{asked};
 
 use records::Event;
-use state::Answer;
+use state::{Answer, Refusal};
 
 // The gathered bytes arrive as a frame, and gathering starts anew whatever the answer.
 fn frame_ends(
@@ -46,7 +46,7 @@ pub fn answer(
     ensures { TurnsOf strips (rules.answer (asked bytes.now) (holding (view_of strips words.old counts.old queues.old memory.old) (take have.old wire.old) out.old)) result words.new counts.new queues.new memory.new wire.new have.new out.new }
 {
     if bytes.len() < 8 {
-        return Answer::CutShort;
+        return Err(Refusal::CutShort);
     }
     let event = records::event_of(bytes);
     match event {
@@ -63,7 +63,7 @@ pub fn answer(
         ),
         Event::Link(up) => strip_chip::linked(words, counts, queues, memory, up),
         // the part is asked for by record 1 alone, and serve.rt has that
-        Event::Part(_) => Answer::OutsideLimits,
-        Event::Unknown => Answer::CutShort,
+        Event::Part(_) => Err(Refusal::OutsideLimits),
+        Event::Unknown => Err(Refusal::CutShort),
     }
 }

@@ -9,7 +9,7 @@ ghost use Rattle.state.specs.Entry.{Right};
 ghost use Rattle.turns.specs.Turns.{Held, Turns, Gathered};
 
 use records::{Event, Gathering};
-use state::Answer;
+use state::{Answer, Refusal};
 
 // Wire bytes join those gathered, or are refused. This looks at no chip.
 pub fn gather_more(wire: &mut [u8], have: &mut usize, bytes: &[u8], count: u8) -> Answer
@@ -20,9 +20,9 @@ pub fn gather_more(wire: &mut [u8], have: &mut usize, bytes: &[u8], count: u8) -
     match gathering {
         Gathering::More(n) => {
             *have = n;
-            Answer::Done(0)
+            Ok(0)
         }
-        Gathering::Refused => Answer::OutsideLimits,
+        Gathering::Refused => Err(Refusal::OutsideLimits),
     }
 }
 
@@ -71,7 +71,7 @@ pub fn answer(
         ),
         Event::Link(up) => chip::linked(words, sets, queues, memory, up),
         // the part is asked for by record 1 alone, which is answered elsewhere
-        Event::Part(_) => Answer::OutsideLimits,
-        Event::Unknown => Answer::CutShort,
+        Event::Part(_) => Err(Refusal::OutsideLimits),
+        Event::Unknown => Err(Refusal::CutShort),
     }
 }

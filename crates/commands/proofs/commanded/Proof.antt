@@ -1,4 +1,5 @@
 -- Each arm is the function of its order, which is the command of the value.
+use Rattle.std.specs.Prelude.{Ok, Err}
 use mathlib.Core.Path.{◌≡◌, refl, ap, sym, subst, ◌∙◌}
 use mathlib.Core.List.{List}
 use Prim.Native.Nat.{ℕ}
@@ -6,8 +7,8 @@ use Rattle.rules.specs.Chip.{paged}
 use Rattle.rules.specs.Mmu as rules
 use Rattle.rules.specs.Mmu.{Command, decode, perform}
 use Rattle.wellformed.specs.Keeps.{Valid, decode_valid}
-use Rattle.state.specs.declared.Answer.{Answer}
-use Rattle.state.specs.declared.Answer.TheVariants as answer
+use Rattle.state.specs.Meaning.{Answer}
+use Rattle.state.specs.declared.Refusal.TheVariants as refusal
 use Rattle.state.specs.Promise.{Ready}
 use Rattle.commands.specs.declared.Order.{Order}
 use Rattle.commands.specs.Orders.{command_of, Performs}
@@ -41,7 +42,7 @@ do-release-requires c κs = let s = c in (s.requires.sound.kept, s.requires.soun
 
 returns : tie.Need-returns-in-Nothing
 unfolding perform
-returns c = let d = c.before in as-told d c.in-Nothing.is (λ mem. unchanged rules.nothing _ _ _ mem (answer.Done 0) (ready d).sound refl)
+returns c = let d = c.before in as-told d c.in-Nothing.is (λ mem. unchanged rules.nothing _ _ _ mem (Ok 0) (ready d).sound refl)
 
 returns-2 : tie.Need-returns-in-Allocate
 returns-2 c =
@@ -82,7 +83,7 @@ returns-8 c =
 
 returns-9 : tie.Need-returns-in-Unknown
 unfolding perform
-returns-9 c = let d = c.before in as-told d c.in-Unknown.is (λ mem. unchanged rules.unknown _ _ _ mem answer.Reserved (ready d).sound refl)
+returns-9 c = let d = c.before in as-told d c.in-Unknown.is (λ mem. unchanged rules.unknown _ _ _ mem (Err refusal.Reserved) (ready d).sound refl)
 
 pub commanded_spec : {M : Type 1} → statement M
 commanded_spec =

@@ -1,4 +1,5 @@
 -- By the verdict: the answer alone, or what aborting a frame does.
+use Rattle.std.specs.Prelude.{Ok}
 use borrow.Author.Rules.{rules}
 use mathlib.Core.Path.{◌≡◌, refl, ap, sym, subst, ◌∙◌}
 use mathlib.Core.Bool.{true≢false}
@@ -6,8 +7,7 @@ use mathlib.Core.List.{List}
 use Prim.Native.Nat.{ℕ}
 use Rattle.rules.specs.Answers.{done_with}
 use Rattle.rules.specs.Receive.{value_for, after}
-use Rattle.state.specs.declared.Answer.{Answer}
-use Rattle.state.specs.declared.Answer.TheVariants.{Done}
+use Rattle.state.specs.Meaning.{Answer}
 use Rattle.state.specs.View.{Kept}
 use Rattle.state.specs.Promise.{Does}
 use Rattle.judging.specs.declared.Verdict.{Verdict}
@@ -21,7 +21,7 @@ told : {v k : Verdict} {w w' : List ℕ} {a : Answer} → v ≡ k → Does (turn
 told {w = w} {w' = w'} {a = a} e = subst (λ (x : Verdict). Does (turned_away (arrival_of x)) w a w') (sym e)
 
 -- the answer is all that there is of it
-stays : (k : ℕ) {w : List ℕ} → Kept w → Does (λ c. done_with k c) w (Done k) w
+stays : (k : ℕ) {w : List ℕ} → Kept w → Does (λ c. done_with k c) w (Ok k) w
 stays k h = record { step = λ l s q mem. refl; still = refl; kept = h }
 
 returns : tie.Need-returns-in-Stored

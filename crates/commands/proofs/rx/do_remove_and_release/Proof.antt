@@ -1,4 +1,5 @@
 -- RX is empty, or its head leaves and its pages are given back.
+use Rattle.std.specs.Prelude.{Ok, Err}
 use mathlib.Core.Path.{ap, sym, ◌∙◌}
 use mathlib.Core.List.{[]}
 use Prim.Native.Nat.{ℕ, ◌<◌}
@@ -7,7 +8,7 @@ use lib.ListN.{length, drop, get_or}
 use Rattle.rules.specs.Chip.{Registers, paged}
 use Rattle.rules.specs.Fields.{set_rx, in_pool}
 use Rattle.rules.specs.Mmu as rules
-use Rattle.state.specs.declared.Answer.TheVariants as answer
+use Rattle.state.specs.declared.Refusal.TheVariants as refusal
 use Rattle.state.specs.View.{word, queue_in, view}
 use Rattle.pool.specs.Queues.{rejoins_chip, rejoins_sets}
 use Rattle.pages.specs.Pages.{alters_sound, waits_few}
@@ -24,7 +25,7 @@ some c = let s = c in omega (arith, s.requires.sound.queues.rx.many, c.if-words-
 returns : tie.Need-returns-then-words-eq0
 returns c = λ mem.
     let s = c in
-    unchanged rules.remove_and_release _ _ _ mem answer.RxEmpty s.requires.sound (releases_none _ (sym s.requires.sound.queues.rx.many ∙ c.if-words-eq0.true))
+    unchanged rules.remove_and_release _ _ _ mem (Err refusal.RxEmpty) s.requires.sound (releases_none _ (sym s.requires.sound.queues.rx.many ∙ c.if-words-eq0.true))
 
 give-back-requires : tie.Need-give_back-requires
 give-back-requires c κs =

@@ -1,4 +1,5 @@
 -- The words at reset, and then no packets and empty queues; the places behind the part's are 0 as they were.
+use Rattle.std.specs.Prelude.{Ok}
 use mathlib.Core.Path.{◌≡◌, ap, ap₂, sym, subst, ◌∙◌}
 use mathlib.Core.List.{List, ◌++◌}
 use Prim.Native.Nat.{ℕ, ◌-◌, ◌≤◌}
@@ -11,7 +12,6 @@ use Rattle.rules.specs.Chip.{strips}
 use Rattle.wellformed.specs.Parts.{part_few}
 use Rattle.reset.specs.Promises.{WordsReset}
 use Rattle.reset.specs.Power.{powers_up}
-use Rattle.state.specs.declared.Answer.TheVariants.{Done}
 use Rattle.state.specs.Meaning.{packets_of}
 use Rattle.state.specs.Entry.{zeros, StartedOf}
 use Rattle.pool.specs.Queues.{EmptiedOf}
@@ -20,7 +20,7 @@ use Rattle.strip_chip.proofs.entries.powered.Statement.{statement}
 use Rattle.strip_chip.proofs.entries.powered.Tie as tie
 
 -- words that were 0, reset, and then the pool of the part's n packets
-begins : (n : ℕ) {k : ℕ} {w₀ w w' s' q' rest : List ℕ} → w₀ ≡ replicate 32 0 → WordsReset w₀ w → k ≡ n → EmptiedOf strips k w w' s' q' → rest ≡ replicate (24 - n) 0 → StartedOf strips n (Done 0) w' (s' ++ rest) q'
+begins : (n : ℕ) {k : ℕ} {w₀ w w' s' q' rest : List ℕ} → w₀ ≡ replicate 32 0 → WordsReset w₀ w → k ≡ n → EmptiedOf strips k w w' s' q' → rest ≡ replicate (24 - n) 0 → StartedOf strips n (Ok 0) w' (s' ++ rest) q'
 begins n {w = w} {w' = w'} {s' = s'} {q' = q'} blank reset size none empty =
     let e = subst (λ (k : ℕ). EmptiedOf strips k w w' s' q') size none in
     starts n e.sound (powers_up (subst (λ (v : List ℕ). WordsReset v w) blank reset) e (zeros strips n)) (ap (λ (r : List ℕ). s' ++ r) empty)

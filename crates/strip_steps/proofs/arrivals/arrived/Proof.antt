@@ -1,8 +1,9 @@
 -- Too short, turned away, or stored: `receive/specs/Arrives` has what each comes to.
+use Rattle.std.specs.Prelude.{Err}
 use borrow.Author.Rules.{rules}
 use mathlib.Core.Path.{◌∙◌, sym}
 use Rattle.rules.specs.Receive.{Frame}
-use Rattle.state.specs.declared.Answer.TheVariants.{OutsideLimits}
+use Rattle.state.specs.declared.Refusal.TheVariants.{OutsideLimits}
 use Rattle.judging.specs.Frames.{frame_of}
 use Rattle.receive.specs.Arrivals.{StowableOf}
 use Rattle.receive.specs.Arrives.{refuses, stays, away, kept, stowable}
@@ -20,7 +21,7 @@ start j = j.before.before.before.before.before.before.before
 returns : tie.Need-returns-then-frame-lt18
 returns c =
     let s = c.before.before.before.before.before.before in
-    rw (refuses s.requires.0 s.args.memory.now (the_frame s) c.if-frame-lt18.true) (stays s.requires.0 s.args.memory.now OutsideLimits)
+    rw (refuses s.requires.0 s.args.memory.now (the_frame s) c.if-frame-lt18.true) (stays s.requires.0 s.args.memory.now (Err OutsideLimits))
 
 turned-away-requires : tie.Need-turned_away-requires
 turned-away-requires c κs =

@@ -8,7 +8,7 @@ use native.Mathlib.Omega.{arith}
 use Rattle.rules.specs.Chip.{strips}
 use Rattle.rules.specs.Registers as rules
 use Rattle.rules.specs.Registers.{Width, Register, misplaced, DATA, RCR, COMMAND, lanes_at, register_at, write_register, access}
-use Rattle.state.specs.declared.Answer.{Answer}
+use Rattle.state.specs.Meaning.{Answer}
 use Rattle.state.specs.Meaning.{width_of}
 use Rattle.state.specs.View.{Kept, view_of}
 use Rattle.state.specs.Promise.{MakesOf}

@@ -1,4 +1,5 @@
 -- RX is empty, or its head leaves and its pages are given back.
+use Rattle.std.specs.Prelude.{Ok, Err}
 use mathlib.Core.Path.{ap, sym, ◌∙◌}
 use mathlib.Core.List.{[]}
 use Prim.Native.Nat.{ℕ, ◌<◌}
@@ -8,7 +9,7 @@ use Rattle.rules.specs.Chip.{Registers, strips}
 use Rattle.rules.specs.Fields.{set_rx, in_pool}
 use Rattle.rules.specs.Mmu as rules
 use Rattle.wellformed.specs.Pool.{good_lists}
-use Rattle.state.specs.declared.Answer.TheVariants as answer
+use Rattle.state.specs.declared.Refusal.TheVariants as refusal
 use Rattle.state.specs.View.{word, queue_in, view_of}
 use Rattle.pool.specs.Queues.{rejoins_chip, rejoins_sets}
 use Rattle.pages.specs.Pages.{alters_sound, waits_few}
@@ -25,7 +26,7 @@ some c = let s = c in omega (arith, s.requires.sound.queues.rx.many, c.if-words-
 returns : tie.Need-returns-then-words-eq0
 returns c = λ mem.
     let s = c in
-    unchanged rules.remove_and_release _ _ _ mem answer.RxEmpty s.requires.sound (releases_none _ (sym s.requires.sound.queues.rx.many ∙ c.if-words-eq0.true))
+    unchanged rules.remove_and_release _ _ _ mem (Err refusal.RxEmpty) s.requires.sound (releases_none _ (sym s.requires.sound.queues.rx.many ∙ c.if-words-eq0.true))
 
 give-back-requires : tie.Need-give_back-requires
 give-back-requires c κs =
