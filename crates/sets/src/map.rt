@@ -10,17 +10,12 @@ ghost use Rattle.sets.specs.Joins.{Joins, FewEach, join4};
 
 use crate::Packet;
 use crate::set::lowest;
-use std::num::wrapping_add_u32;
 
 // The packet's pages: none where there is no such packet.
 pub fn set_of(sets: &[u32], packet: Packet) -> u32
     ensures { pages_of result ≡ slice_index_or (map pages_of sets.now) packet.0 [] }
 {
-    let k = packet.0 as usize;
-    if sets.len() <= k {
-        return 0;
-    }
-    sets[k]
+    sets.get(packet.0 as usize).copied().unwrap_or(0)
 }
 
 // The pages that packets own.
@@ -28,10 +23,8 @@ pub fn owned_set(sets: &[u32]) -> u32
     ensures { (p : ℕ) → bit p result ≡ owned p (map pages_of sets.now) }
 {
     let mut taken = 0;
-    let mut k = 0;
-    while k < sets.len() {
-        taken = taken | sets[k];
-        k += 1;
+    for set in sets {
+        taken |= *set;
     }
     taken
 }
@@ -57,28 +50,17 @@ pub fn free_set(sets: &[u32]) -> u32
 pub fn lowest_unallocated(sets: &[u32]) -> usize
     ensures { result ≡ first_empty (map pages_of sets.now) }
 {
-    let mut number = 0;
-    loop {
-        if sets.len() <= number {
-            break number;
-        }
-        if sets[number] == 0 {
-            break number;
-        }
-        number += 1;
-    }
+    sets.iter().position(|set| *set == 0).unwrap_or(sets.len())
 }
 
 // No packet has pages. Only what is not 0 is stored: stores of all are a call of memset by the length, and a write's stack 16 bytes deeper.
 pub fn cleared(sets: &mut [u32])
     ensures { map pages_of sets.new ≡ replicate (length sets.old) [] }
 {
-    let mut k = 0;
-    while k < sets.len() {
-        if sets[k] != 0 {
-            sets[k] = 0;
+    for set in sets.iter_mut() {
+        if *set != 0 {
+            *set = 0;
         }
-        k += 1;
     }
 }
 
@@ -116,13 +98,7 @@ fn few_each(sets: &[u32]) -> bool
     requires { length sets.now ≡ 24 }
     ensures { Decides result (FewEach 8 sets.now) }
 {
-    let mut found = false;
-    let mut k = 0;
-    while k < 24 {
-        found = found | crowded(sets[k]);
-        k += 1;
-    }
-    !found
+    sets.iter().all(|set| !crowded(*set))
 }
 
 // The sets joined, those of packets 0, 4, 8 .. apart from 1, 5, 9 .. and so on, and the sum of all: four sets in a step with no branch, which the compiler makes one vector.
@@ -159,22 +135,21 @@ fn joined(sets: &[u32]) -> Rows
     let mut b = 0;
     let mut c = 0;
     let mut d = 0;
-    let mut sum = 0;
-    let mut k = 0;
-    while k < 24 {
-        let w = sets[k];
-        let x = sets[k + 1];
-        let y = sets[k + 2];
-        let z = sets[k + 3];
-        a = a | w;
-        b = b | x;
-        c = c | y;
-        d = d | z;
-        sum = wrapping_add_u32(sum, w);
-        sum = wrapping_add_u32(sum, x);
-        sum = wrapping_add_u32(sum, y);
-        sum = wrapping_add_u32(sum, z);
-        k += 4;
+    let mut sum = 0u32;
+    for row in 0..6 {
+        let w = sets[4 * row];
+        let x = sets[4 * row + 1];
+        let y = sets[4 * row + 2];
+        let z = sets[4 * row + 3];
+        a |= w;
+        b |= x;
+        c |= y;
+        d |= z;
+        sum = sum
+            .wrapping_add(w)
+            .wrapping_add(x)
+            .wrapping_add(y)
+            .wrapping_add(z);
     }
     Rows { a, b, c, d, sum }
 }

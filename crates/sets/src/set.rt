@@ -24,10 +24,8 @@ pub fn without(set: u32, k: u32) -> u32
     ensures { pages_of result ≡ drop k (pages_of set) }
 {
     let mut rest = set;
-    let mut left = k;
-    while 0 < left {
-        rest = rest & std::num::wrapping_sub_u32(rest, 1);
-        left -= 1;
+    for _ in 0..k {
+        rest &= rest.wrapping_sub(1);
     }
     rest
 }
