@@ -19,14 +19,7 @@ pub fn empty_from(sets: &[u32], size: usize) -> bool
     requires { (length sets.now ≡ 24) × (size ≤ 24) }
     ensures { Decides result (drop size sets.now ≡ replicate (24 - size) 0) }
 {
-    let mut k = size;
-    while k < sets.len() {
-        if sets[k] != 0 {
-            return false;
-        }
-        k += 1;
-    }
-    true
+    sets[size..].iter().all(|&set| set == 0)
 }
 
 pub fn well_formed(words: &[u16], sets: &[u32], queues: &[u8]) -> bool
@@ -43,15 +36,10 @@ pub fn well_formed(words: &[u16], sets: &[u32], queues: &[u8]) -> bool
     if !empty_from(sets, size) {
         return false;
     }
-    let pages = sets::audit(sets, size);
-    if !pages.0 {
+    let Some(free) = sets::audit(sets, size) else {
         return false;
-    }
-    if words[MIR] as u32 != size as u32 + pages.1 * 256 {
-        return false;
-    }
-    if !request_good(words[MIR], words[PACKET], words[WAITING]) {
-        return false;
-    }
-    queues_good(words, sets, queues, size)
+    };
+    words[MIR] as u32 == size as u32 + free * 256
+        && request_good(words[MIR], words[PACKET], words[WAITING])
+        && queues_good(words, sets, queues, size)
 }
