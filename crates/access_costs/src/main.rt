@@ -5,6 +5,7 @@
 
 ghost use Rattle.state.specs.Entry.{InOrder};
 
+use pages::Paged;
 use state::{Answer, Pages, Part, Queues, Registers, Returned, Shown, Width};
 use std::array;
 
@@ -75,7 +76,7 @@ impl Lent {
             memory,
         } = self;
         match record.kind {
-            1 | 2 => chip::read(
+            1 | 2 => chip::read::<Paged>(
                 words,
                 sets,
                 queues,
@@ -83,7 +84,7 @@ impl Lent {
                 width_of(record.kind),
                 record.offset,
             ),
-            3 | 4 => chip::write(
+            3 | 4 => chip::write::<Paged>(
                 words,
                 sets,
                 queues,
@@ -92,7 +93,7 @@ impl Lent {
                 record.offset,
                 record.value,
             ),
-            6 => chip::arrived(words, sets, queues, memory, frame, false),
+            6 => chip::arrived::<Paged>(words, sets, queues, memory, frame, false),
             _ => Ok(0),
         }
     }

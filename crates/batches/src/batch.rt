@@ -9,6 +9,7 @@ ghost use Rattle.batches.specs.Batch.{form_of, widest, room_for, Prints, Answere
 ghost use Rattle.batches.specs.Alone.{LoneLine, LastLine};
 
 use lines::Counter;
+use pages::Paged;
 use state::{Answer, Refusal, Shown};
 
 // The line of a record, the bench's or that of `watch`; returns the place behind it. The interrupt line is the caller's, so that this stays short enough for the compiler to have it in the loop.
@@ -94,7 +95,7 @@ pub fn answer_all(
     let mut counter = lines::counter_of(*number);
     while k < input.len() / 8 {
         let bytes = &input[8 * k..8 * k + 8];
-        let given = turns::answer(words, sets, queues, memory, wire, have, out, bytes);
+        let given = turns::answer::<Paged>(words, sets, queues, memory, wire, have, out, bytes);
         let sent = records::is_send(bytes);
         let up = interrupts::line_up(words);
         *end = print(watching, lines, *end, counter, given, sent, up, out);

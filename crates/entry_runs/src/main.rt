@@ -9,6 +9,7 @@
 ghost use Rattle.std.specs.Prelude.{◌≡◌, ◌≤◌, length};
 
 use chip::Request;
+use pages::Paged;
 use state::{Pages, Queues, Refusal, Registers, Returned, Shown, Width};
 use std::io::Print;
 
@@ -35,13 +36,13 @@ fn sent(
 ) -> Returned {
     let [_, outcome, collisions, deferral, lacks, ..] = *asked;
     if lacks == 0 {
-        return chip::send(
+        return chip::send::<Paged>(
             registers, pages, queues, memory, wire, outcome, collisions, deferral,
         );
     }
     let from = wire.len().min(lacks as usize);
     let out = &mut wire[from..];
-    chip::send(
+    chip::send::<Paged>(
         registers, pages, queues, memory, out, outcome, collisions, deferral,
     )
 }
@@ -58,7 +59,7 @@ fn arrived(
     let [_, flags, low, high, ..] = *asked;
     let n = wire.len().min(u16::from_le_bytes([low, high]) as usize);
     let alignment = flags / 2 % 2 == 1;
-    chip::frame(registers, pages, queues, memory, &wire[..n], alignment)
+    chip::frame::<Paged>(registers, pages, queues, memory, &wire[..n], alignment)
 }
 
 // `access` and `send` are called at two places each, so that the compiler calls them and does not have them in the loop, as a caller elsewhere would. A record of any other
@@ -75,15 +76,15 @@ fn served(
     match kind {
         1 | 2 => {
             let read = Request::Read(width_of(kind), offset);
-            chip::access(registers, pages, queues, memory, read)
+            chip::access::<Paged>(registers, pages, queues, memory, read)
         }
         3 | 4 => {
             let write = Request::Write(width_of(kind), offset, u16::from_le_bytes([low, high]));
-            chip::access(registers, pages, queues, memory, write)
+            chip::access::<Paged>(registers, pages, queues, memory, write)
         }
         6 => arrived(registers, pages, queues, memory, wire, asked),
         7 => sent(registers, pages, queues, memory, wire, asked),
-        8 => chip::link(registers, pages, queues, memory, offset),
+        8 => chip::link::<Paged>(registers, pages, queues, memory, offset),
         _ => Returned {
             answer: Err(Refusal::CutShort),
             registers,

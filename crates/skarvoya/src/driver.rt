@@ -6,6 +6,7 @@ ghost use Rattle.lent.specs.Lent.{wide};
 ghost use Rattle.skarvoya.specs.Calls.{Calls};
 
 use lent::{in_order, told, width_of};
+use pages::Paged;
 use state::{Answer, Refusal};
 
 // Reads a word or a byte.
@@ -22,7 +23,7 @@ pub fn skarvoya_read(
     if !in_order(words, sets, queues, memory) {
         return told(Err(Refusal::Damaged));
     }
-    told(chip::read_whole(words, sets, queues, memory, width_of(word), offset))
+    told(chip::read_whole::<Paged>(words, sets, queues, memory, width_of(word), offset))
 }
 
 // Writes a word, or the value's low byte.
@@ -40,5 +41,5 @@ pub fn skarvoya_write(
     if !in_order(words, sets, queues, memory) {
         return told(Err(Refusal::Damaged));
     }
-    told(chip::write_whole(words, sets, queues, memory, width_of(word), offset, value))
+    told(chip::write_whole::<Paged>(words, sets, queues, memory, width_of(word), offset, value))
 }

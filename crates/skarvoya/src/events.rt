@@ -5,6 +5,7 @@ ghost use Rattle.judging.specs.Frames.{frame_of};
 ghost use Rattle.skarvoya.specs.Calls.{Calls};
 
 use lent::{in_order, told};
+use pages::Paged;
 use state::{Answer, Refusal};
 
 // A frame arrives: its bytes with FCS, and the flag alignment.
@@ -21,7 +22,7 @@ pub fn skarvoya_frame(
     if !in_order(words, sets, queues, memory) {
         return told(Err(Refusal::Damaged));
     }
-    told(chip::arrived_whole(words, sets, queues, memory, frame, alignment))
+    told(chip::arrived_whole::<Paged>(words, sets, queues, memory, frame, alignment))
 }
 
 // The packet at the head of TX has been sent; what is put out goes to the front of the output buffer.
@@ -40,7 +41,7 @@ pub fn skarvoya_send(
     if !in_order(words, sets, queues, memory) {
         return told(Err(Refusal::Damaged));
     }
-    told(chip::finished_whole(
+    told(chip::finished_whole::<Paged>(
         words, sets, queues, memory, output, outcome, collisions, deferral,
     ))
 }
@@ -52,5 +53,5 @@ pub fn skarvoya_link(words: &mut [u16], sets: &[u32], queues: &[u8], memory: &[u
     if !in_order(words, sets, queues, memory) {
         return told(Err(Refusal::Damaged));
     }
-    told(chip::linked_whole(words, sets, queues, memory, up))
+    told(chip::linked_whole::<Paged>(words, sets, queues, memory, up))
 }

@@ -8,6 +8,7 @@ ghost use Rattle.skarvoya.specs.Records.{BenchHeld, BenchInOrder, Roomy, bench_o
 
 use lent::{ready, started, told};
 use on_wire::OUTPUT_BYTES;
+use pages::Paged;
 use state::{Answer, Part, Refusal, Shown};
 
 // Room for the memory of either part.
@@ -67,7 +68,7 @@ fn answer(
         return Err(Refusal::CutShort);
     }
     let n = state::size_in(words);
-    turns::answer(
+    turns::answer::<Paged>(
         words,
         &mut sets[..n],
         queues,
