@@ -13,14 +13,11 @@ ghost use Rattle.state.specs.View.{view_of, figures, lists_of, Kept};
 ghost use Rattle.state.specs.Promise.{QueuesIn, PagesIn, SoundOf, ReadyOf, MakesOf};
 ghost use Rattle.commands.specs.Orders.{PerformsOf};
 
+use decode::decoded;
 use pages::Layout;
 use pool::{Completion, Tx};
-
-pub use decode::decoded;
-pub use register::named;
 use register::{do_enqueue, do_release};
-pub use rx::do_remove;
-use rx::do_remove_and_release;
+use rx::{do_remove, do_remove_and_release};
 use state::{Answer, NO_PACKET, Refusal};
 
 // The commands of the MMU command register.
@@ -59,7 +56,7 @@ fn do_reset(words: &mut [u16], sets: &mut [u32], queues: &mut [u8]) -> Answer
     Ok(0)
 }
 
-pub fn do_reset_tx(words: &mut [u16], queues: &mut [u8]) -> Answer
+fn do_reset_tx(words: &mut [u16], queues: &mut [u8]) -> Answer
     requires { Kept words.old × QueuesIn (figures words.old) queues.old × ((l : Layout) × (s : List ℕ) × PagesIn l (figures words.old) s) }
     ensures { (l : Layout) (s : List ℕ) → PagesIn l (figures words.old) s → PerformsOf l rules.reset_tx words.old s queues.old result words.new s queues.new }
 {
@@ -69,7 +66,12 @@ pub fn do_reset_tx(words: &mut [u16], queues: &mut [u8]) -> Answer
 }
 
 // A write of the value to the MMU command register.
-pub fn commanded<L: Layout>(words: &mut [u16], sets: &mut [u32], queues: &mut [u8], value: u8) -> Answer
+pub fn commanded<L: Layout>(
+    words: &mut [u16],
+    sets: &mut [u32],
+    queues: &mut [u8],
+    value: u8,
+) -> Answer
     requires { ReadyOf L.layout words.old sets.old queues.old }
     ensures { (mem : List ℕ) → MakesOf L.layout (rules.command value (view_of L.layout words.old sets.old queues.old mem)) result words.new sets.new queues.new mem }
 {

@@ -21,7 +21,11 @@ pub fn do_remove(words: &mut [u16], queues: &mut [u8]) -> Answer
     Ok(0)
 }
 
-pub fn do_remove_and_release<L: Layout>(words: &mut [u16], sets: &mut [u32], queues: &mut [u8]) -> Answer
+pub fn do_remove_and_release<L: Layout>(
+    words: &mut [u16],
+    sets: &mut [u32],
+    queues: &mut [u8],
+) -> Answer
     requires { ReadyOf L.layout words.old sets.old queues.old }
     ensures { PerformsOf L.layout rules.remove_and_release words.old sets.old queues.old result words.new sets.new queues.new }
 {

@@ -6,6 +6,7 @@ ghost use Rattle.state.specs.View.{view_of};
 ghost use Rattle.state.specs.Promise.{ReadyOf, MakesOf};
 ghost use Rattle.data.specs.Access.{width_of, bytes_for};
 
+use crate::{Spot, checks, reads, writes};
 use pages::{Layout, Paged};
 use state::Answer;
 
@@ -36,6 +37,7 @@ pub trait Data: Layout {
 }
 
 impl Data for Paged {
+    // The byte's answer is made here, for the compiler alone: see `accesses::read`.
     fn read_data(
         words: &mut [u16],
         sets: &[u32],
@@ -43,7 +45,11 @@ impl Data for Paged {
         memory: &[u8],
         wide: bool,
     ) -> Answer {
-        crate::read_data(words, sets, queues, memory, wide)
+        let Spot { at, rest } = checks::gate_of(words, sets, queues, true)?;
+        if !wide {
+            return Ok(reads::read_byte(words, memory, at, rest));
+        }
+        reads::read_word(words, memory, at, rest)
     }
 
     fn write_data(
@@ -54,6 +60,10 @@ impl Data for Paged {
         wide: bool,
         value: u16,
     ) -> Answer {
-        crate::write_data(words, sets, queues, memory, wide, value)
+        let Spot { at, rest } = checks::gate_of(words, sets, queues, false)?;
+        if wide {
+            return writes::write_word(words, memory, at, rest, value);
+        }
+        writes::write_byte(words, memory, at, rest, value)
     }
 }

@@ -1,4 +1,4 @@
-// The pointer and the data accesses, over the lent state; those of `read_data` and `write_data` are the paged chip's.
+// The pointer and the data accesses, over the lent state: what both layouts have of them, and those of the paged chip.
 #![tactic(auto)]
 
 mod checks; // checks.rt: which packet the pointer means, and where the first byte lies or why it is refused
@@ -7,57 +7,13 @@ mod pointer; // pointer.rt: the pointer after an access
 mod reads; // reads.rt: reads behind the gate
 mod writes; // writes.rt: writes behind the gate
 
-ghost use Rattle.std.specs.Prelude.{◌≡◌, ◌*◌, length};
-ghost use Rattle.rules.specs.Data.{read_data, write_data};
-ghost use Rattle.state.specs.View.{view};
-ghost use Rattle.state.specs.Promise.{Ready, Makes};
-ghost use Rattle.data.specs.Access.{width_of, bytes_for};
-
 pub use checks::{is_against, is_odd_fixed, meant, refusal};
 pub use layout::Data;
 pub use pointer::advance;
-use state::Answer;
 
 // Where an access goes: the place of its first byte, in the lowest page of the set, which is the packet's from there on.
 #[derive(Clone, Copy)]
 struct Spot {
     at: usize,
     rest: u32,
-}
-
-// A data read on a chip that is well formed. The byte's answer is made here, for the compiler alone: see `accesses::read`.
-pub fn read_data(
-    words: &mut [u16],
-    sets: &[u32],
-    queues: &[u8],
-    memory: &[u8],
-    wide: bool,
-) -> Answer
-    requires { Ready words.old sets.now queues.now × (length memory.now ≡ 256 * length sets.now) }
-    ensures { Makes (read_data (width_of wide) (view words.old sets.now queues.now memory.now)) result words.new sets.now queues.now memory.now }
-{
-    let Spot { at, rest } = checks::gate_of(words, sets, queues, true)?;
-    if !wide {
-        return Ok(reads::read_byte(words, memory, at, rest));
-    }
-    reads::read_word(words, memory, at, rest)
-}
-
-// A data write on a chip that is well formed.
-pub fn write_data(
-    words: &mut [u16],
-    sets: &[u32],
-    queues: &[u8],
-    memory: &mut [u8],
-    wide: bool,
-    value: u16,
-) -> Answer
-    requires { Ready words.old sets.now queues.now × (length memory.old ≡ 256 * length sets.now) }
-    ensures { Makes (write_data (bytes_for wide value) (view words.old sets.now queues.now memory.old)) result words.new sets.now queues.now memory.new }
-{
-    let Spot { at, rest } = checks::gate_of(words, sets, queues, false)?;
-    if wide {
-        return writes::write_word(words, memory, at, rest, value);
-    }
-    writes::write_byte(words, memory, at, rest, value)
 }

@@ -57,45 +57,6 @@ fn put_at(memory: &mut [u8], packet: Packet, at: Address, wide: bool, value: u16
     strip_bytes::write_byte(memory, packet, at, value);
 }
 
-fn read_data(words: &mut [u16], counts: &[u32], queues: &[u8], memory: &[u8], wide: bool) -> Answer
-    requires { ReadyOf strips words.old counts.now queues.now × (length memory.now ≡ 2048 * length counts.now) }
-    ensures { MakesOf strips (read_data (width_of wide) (view_of strips words.old counts.now queues.now memory.now)) result words.new counts.now queues.now memory.now }
-{
-    let packet = data::meant(words, queues);
-    let pages = pages_of(counts, packet);
-    let pointer = words[POINTER];
-    let width = width_of(wide);
-    if is_refused(pages, width, true, pointer) {
-        return Err(data::refusal(pages != 0, true, pointer));
-    }
-    let value = value_at(memory, packet, Address(pointer % 2048), wide);
-    data::advance(words, width);
-    Ok(value)
-}
-
-fn write_data(
-    words: &mut [u16],
-    counts: &[u32],
-    queues: &[u8],
-    memory: &mut [u8],
-    wide: bool,
-    value: u16,
-) -> Answer
-    requires { ReadyOf strips words.old counts.now queues.now × (length memory.old ≡ 2048 * length counts.now) }
-    ensures { MakesOf strips (write_data (bytes_for wide value) (view_of strips words.old counts.now queues.now memory.old)) result words.new counts.now queues.now memory.new }
-{
-    let packet = data::meant(words, queues);
-    let pages = pages_of(counts, packet);
-    let pointer = words[POINTER];
-    let width = width_of(wide);
-    if is_refused(pages, width, false, pointer) {
-        return Err(data::refusal(pages != 0, false, pointer));
-    }
-    put_at(memory, packet, Address(pointer % 2048), wide, value);
-    data::advance(words, width);
-    Ok(0)
-}
-
 impl Data for Strips {
     fn read_data(
         words: &mut [u16],
@@ -104,7 +65,16 @@ impl Data for Strips {
         memory: &[u8],
         wide: bool,
     ) -> Answer {
-        read_data(words, counts, queues, memory, wide)
+        let packet = data::meant(words, queues);
+        let pages = pages_of(counts, packet);
+        let pointer = words[POINTER];
+        let width = width_of(wide);
+        if is_refused(pages, width, true, pointer) {
+            return Err(data::refusal(pages != 0, true, pointer));
+        }
+        let value = value_at(memory, packet, Address(pointer % 2048), wide);
+        data::advance(words, width);
+        Ok(value)
     }
 
     fn write_data(
@@ -115,6 +85,15 @@ impl Data for Strips {
         wide: bool,
         value: u16,
     ) -> Answer {
-        write_data(words, counts, queues, memory, wide, value)
+        let packet = data::meant(words, queues);
+        let pages = pages_of(counts, packet);
+        let pointer = words[POINTER];
+        let width = width_of(wide);
+        if is_refused(pages, width, false, pointer) {
+            return Err(data::refusal(pages != 0, false, pointer));
+        }
+        put_at(memory, packet, Address(pointer % 2048), wide, value);
+        data::advance(words, width);
+        Ok(0)
     }
 }

@@ -1,12 +1,9 @@
 // How many pages each packet has: the first of its own strip, so that a number says all of them. How many are free is MIR's high byte.
 ghost use Rattle.std.specs.Prelude.{◌≡◌, [], length, get_or};
-ghost use Rattle.rules.specs.Parts.{IsPart};
 ghost use Rattle.rules.specs.Chip.{strips};
-ghost use Rattle.state.specs.View.{strips_from, Kept};
-ghost use Rattle.pool.specs.Queues.{EmptiedOf};
+ghost use Rattle.state.specs.View.{strips_from};
 
 use pages::{Layout, fewer, more};
-use pool::store_none;
 use sets::Packet;
 use state::MIR;
 
@@ -51,15 +48,4 @@ impl Layout for Strips {
         words[MIR] = more(words[MIR], pages_of(counts, packet));
         counts[packet.0 as usize] = 0;
     }
-}
-
-// No packet has pages, and all queues are empty, whatever the figures were.
-pub fn reset(words: &mut [u16], counts: &mut [u32], queues: &mut [u8])
-    requires { Kept words.old × IsPart (length counts.old) × (length queues.old ≡ 72) }
-    ensures { EmptiedOf strips (length counts.old) words.old words.new counts.new queues.new }
-{
-    let packets = counts.len() as u8;
-    sets::cleared(counts); // all 0: "no pages", of a count as of a set
-    queues::empty(queues);
-    store_none(words, packets);
 }

@@ -5,5 +5,4 @@ mod access; // access.rt: data accesses
 mod counts; // counts.rt: how many pages each packet has, granted and given back
 mod order; // order.rt: is a state in order, refusal 16
 
-pub use counts::{Strips, pages_of, reset};
-pub use order::well_formed;
+pub use counts::{Strips, pages_of};

@@ -32,38 +32,31 @@ fn counts_good(counts: &[u32], free: u32, size: usize) -> bool
     sum as usize == size
 }
 
-// MIR has the part's number of packets in its low byte, and how many pages are free in its high byte. The queues ask of a packet only whether it has pages, so a check made
-// for page sets may be handed the counts: 0 is "no pages" in both.
-pub fn well_formed(words: &[u16], counts: &[u32], queues: &[u8]) -> bool
-    requires { (length words.now ≡ 32) × (length counts.now ≡ 24) × (length queues.now ≡ 72) }
-    ensures { Decides result (HoldsOf strips words.now counts.now queues.now) }
-{
-    let size = state::size_in(words);
-    if !state::is_part(size) {
-        return false;
-    }
-    if !words_good(words, size) {
-        return false;
-    }
-    if !empty_from(counts, size) {
-        return false;
-    }
-    if !counts_good(counts, free_count(words), size) {
-        return false;
-    }
-    if !request_good(words[MIR], words[PACKET], words[WAITING]) {
-        return false;
-    }
-    queues_good(words, counts, queues, size)
-}
-
 impl Ordered for Strips {
     const PACKET_BYTES: usize = 2048;
 
     ghost PACKET_BYTES = { 2048 };
 
+    // MIR has the part's number of packets in its low byte, and how many pages are free in its high byte. The queues ask of a packet only whether it has pages, so a check made
+    // for page sets may be handed the counts: 0 is "no pages" in both.
     fn well_formed(words: &[u16], counts: &[u32], queues: &[u8]) -> bool {
-        well_formed(words, counts, queues)
+        let size = state::size_in(words);
+        if !state::is_part(size) {
+            return false;
+        }
+        if !words_good(words, size) {
+            return false;
+        }
+        if !empty_from(counts, size) {
+            return false;
+        }
+        if !counts_good(counts, free_count(words), size) {
+            return false;
+        }
+        if !request_good(words[MIR], words[PACKET], words[WAITING]) {
+            return false;
+        }
+        queues_good(words, counts, queues, size)
     }
 
     ghost long = { λ n. omega arith };

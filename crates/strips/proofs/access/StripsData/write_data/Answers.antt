@@ -12,7 +12,7 @@ use Rattle.data.specs.Gates.{enters}
 use Rattle.data.specs.Behind.{writes, makes_as}
 use Rattle.strips.specs.Data.{stops, stopped, not_past, goes, some_width, bytes_width, in_strip, strip_writes}
 use Rattle.strips.proofs.Meant.{same_pages, has, told, inside}
-use Rattle.strips.proofs.access.write_data.Goals as goal
+use Rattle.strips.proofs.access.StripsData.write_data.Goals as goal
 
 pub returns-then-is_refused : goal.returns-then-is_refused
 unfolding write_data
@@ -30,7 +30,7 @@ pub put_at-requires : goal.put_at-requires
 unfolding address
 put_at-requires c =
     let p = c.pages_of-pages.ensures in
-    in_strip c.requires.0 c.meant-packet.result.0 (width_of c.args.wide) _ c.args.memory.now (inside false c.args.wide c.args.words.now c.args.counts.now c.args.queues.now c.meant-packet.ensures p.count p.pages c.width_of-width.ensures c.is_refused.ensures c.if-is_refused.false) (some_width c.args.wide) c.requires.1
+    in_strip c.requires.0 c.meant-packet.result.0 (width_of c.args.wide) _ c.args.memory.now (inside false c.args.wide c.args.words.now c.args.counts.now c.args.queues.now c.meant-packet.ensures p.count p.pages c.width_of-width.ensures c.is_refused.ensures c.if-is_refused.false) (some_width c.args.wide) (omega (arith, c.requires.1))
 
 pub returns : goal.returns
 unfolding write_data address

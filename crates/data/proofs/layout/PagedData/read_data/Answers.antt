@@ -5,7 +5,7 @@ use Rattle.std.proofs.lemmas.Result.{err_from_is_err_and}
 use Rattle.rules.specs.Data.{read_data}
 use Rattle.data.specs.Access.{width_of}
 use Rattle.data.specs.Gates.{room, stopped, passed}
-use Rattle.data.proofs.read_data.Goals as goal
+use Rattle.data.proofs.layout.PagedData.read_data.Goals as goal
 
 some-width : (wide : Bool) → 0 < width_of wide
 some-width true = omega arith

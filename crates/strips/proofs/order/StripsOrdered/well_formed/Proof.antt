@@ -12,8 +12,8 @@ use Rattle.state.specs.Promise.{Small}
 use Rattle.state.specs.Entry.{HoldsOf}
 use Rattle.strips.specs.Counts.{GoodCounts}
 use Rattle.strips.specs.Asked.{Asked, holds_asked, asked_holds}
-use Rattle.strips.proofs.order.well_formed.Statement.{statement}
-use Rattle.strips.proofs.order.well_formed.Tie as tie
+use Rattle.strips.proofs.order.StripsOrdered.well_formed.Statement.{statement}
+use Rattle.strips.proofs.order.StripsOrdered.well_formed.Tie as tie
 
 module _ (n : tie.After-size_in-size) where
   abbrev s : tie.Start

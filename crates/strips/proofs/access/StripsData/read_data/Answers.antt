@@ -12,7 +12,7 @@ use Rattle.data.specs.Behind.{reads, makes_as}
 use Rattle.rules.specs.Chip.{strips}
 use Rattle.strips.specs.Data.{stopped, not_past, goes, some_width, in_strip, strip_reads}
 use Rattle.strips.proofs.Meant.{same_pages, has, told, inside}
-use Rattle.strips.proofs.access.read_data.Goals as goal
+use Rattle.strips.proofs.access.StripsData.read_data.Goals as goal
 
 pub returns-then-is_refused : goal.returns-then-is_refused
 unfolding read_data
@@ -29,7 +29,7 @@ pub value_at-value-requires : goal.value_at-value-requires
 unfolding address
 value_at-value-requires c =
     let p = c.pages_of-pages.ensures in
-    in_strip c.requires.0 c.meant-packet.result.0 (width_of c.args.wide) _ c.args.memory.now (inside true c.args.wide c.args.words.now c.args.counts.now c.args.queues.now c.meant-packet.ensures p.count p.pages c.width_of-width.ensures c.is_refused.ensures c.if-is_refused.false) (some_width c.args.wide) c.requires.1
+    in_strip c.requires.0 c.meant-packet.result.0 (width_of c.args.wide) _ c.args.memory.now (inside true c.args.wide c.args.words.now c.args.counts.now c.args.queues.now c.meant-packet.ensures p.count p.pages c.width_of-width.ensures c.is_refused.ensures c.if-is_refused.false) (some_width c.args.wide) (omega (arith, c.requires.1))
 
 pub returns : goal.returns
 unfolding read_data address

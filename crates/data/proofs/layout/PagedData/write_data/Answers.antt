@@ -5,7 +5,7 @@ use Rattle.std.proofs.lemmas.Result.{err_from_is_err_and}
 use Rattle.rules.specs.Data.{write_data}
 use Rattle.data.specs.Access.{bytes_for}
 use Rattle.data.specs.Gates.{room, stopped, passed}
-use Rattle.data.proofs.write_data.Goals as goal
+use Rattle.data.proofs.layout.PagedData.write_data.Goals as goal
 
 some_bytes : (wide : Bool) (v : ℕ) → 0 < length (bytes_for wide v)
 some_bytes true v = omega arith
