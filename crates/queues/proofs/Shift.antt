@@ -1,11 +1,7 @@
 -- Slots of a queue whose entries are moved up by one.
-use mathlib.Core.Path.{◌≡◌, ap, sym, ◌∙◌}
-use mathlib.Core.List.{List, ◌∷◌, ◌++◌}
-use Prim.Native.Nat.{ℕ, suc, ◌+◌, ◌-◌, ◌<◌}
-use native.Mathlib.Numerals.{add-one}
-use native.Mathlib.Omega.{arith}
-use lib.ListN.{length, take, drop, get_or, set, length-drop}
-use lib.Seq.{drop-cons, set_at, take-suc, append_snoc, length-take-le, get_or-append-add, get_or-drop}
+use Rattle.std.proofs.Common.{◌≡◌, ℕ, suc, ◌+◌, ◌-◌, ◌<◌, List, ◌∷◌, ◌++◌, length, take, drop, get_or, set, ap, sym, ◌∙◌, add-one, arith, length-drop, length-take-le, drop-cons, get_or-drop}
+use Rattle.std.proofs.lemmas.List.{set_at}
+use Rattle.std.proofs.Math.Seq.{take-suc, append_snoc, get_or-append-add}
 
 -- i entries have moved up
 unfoldable pub moved : List ℕ → ℕ → List ℕ

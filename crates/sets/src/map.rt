@@ -95,13 +95,12 @@ fn crowded(set: u32) -> bool
 
 // Has no packet more pages than it may?
 fn few_each(sets: &[u32]) -> bool
-    requires { length sets.now ≡ 24 }
     ensures { Decides result (FewEach 8 sets.now) }
 {
     sets.iter().all(|set| !crowded(*set))
 }
 
-// The sets joined, those of packets 0, 4, 8 .. apart from 1, 5, 9 .. and so on, and the sum of all: four sets in a step with no branch, which the compiler makes one vector.
+// The sets joined, those of packets 0, 4, 8 .. apart from 1, 5, 9 .. and so on, and the sum of all.
 #[derive(Clone, Copy)]
 struct Rows {
     a: u32,
@@ -127,6 +126,7 @@ impl Rows {
     }
 }
 
+// Four sets in a step with no branch, which the compiler makes one vector, and six steps, which it lays out flat.
 fn joined(sets: &[u32]) -> Rows
     requires { length sets.now ≡ 24 }
     ensures { Joins sets.now result.a result.b result.c result.d result.sum [] }
