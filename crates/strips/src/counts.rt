@@ -20,11 +20,7 @@ pub fn pages_of(counts: &[u32], packet: Packet) -> u32
     ensures count { result ≡ get_or counts.now packet.0 0 }
     ensures pages { result ≡ length (get_or (strips_from 0 counts.now) packet.0 []) }
 {
-    let k = packet.0 as usize;
-    if counts.len() <= k {
-        return 0;
-    }
-    counts[k]
+    counts.get(packet.0 as usize).copied().unwrap_or(0)
 }
 
 // Has the packet pages?
@@ -34,16 +30,12 @@ pub fn is_allocated(counts: &[u32], packet: Packet) -> bool
     pages_of(counts, packet) != 0
 }
 
-// The lowest number with no pages. Where each packet has some it is their number, which is no packet's: there the loop ends at the latest.
+// The lowest number with no pages. Where each packet has some it is their number, which is no packet's. 0 is "no pages", of a count as of a set.
 pub fn lowest_unallocated(counts: &[u32]) -> Packet
     requires { length counts.now ≤ 24 }
     ensures { result.0 ≡ first_empty (strips_from 0 counts.now) }
 {
-    let mut number = 0;
-    while is_allocated(counts, Packet(number)) {
-        number += 1;
-    }
-    Packet(number)
+    Packet(sets::lowest_unallocated(counts) as u8)
 }
 
 // The packet, the lowest unallocated, gets `need` pages: as many fewer are free.
