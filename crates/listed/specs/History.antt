@@ -16,7 +16,7 @@ use Rattle.wellformed.specs.Layouts.{free_total, none_total, none_lists}
 use Rattle.wellformed.specs.Keeps.{powered_fits}
 use Rattle.sets.specs.Members.{set_of}
 use Rattle.state.specs.Entry.{Started, zeros}
-use Rattle.listed.specs.declared.Page.{Page}
+use Rattle.sets.specs.declared.Page.{Page}
 use Rattle.listed.specs.declared.Queue.{Queue}
 use Rattle.listed.specs.Record.{page, packet, used, row_of, map_of, SoundQueue}
 use Rattle.listed.specs.Lists.{map_padded}

@@ -4,7 +4,7 @@ use Rattle.rules.specs.Answers.{Turn}
 use Rattle.rules.specs.Step.{Input, lent, step}
 use Rattle.state.specs.declared.Refusal.TheVariants.{Damaged}
 use Rattle.state.specs.Meaning.{reply_of}
-use Rattle.listed.specs.declared.Page.{Page}
+use Rattle.sets.specs.declared.Page.{Page}
 use Rattle.listed.specs.declared.Registers.{Registers}
 use Rattle.listed.specs.declared.Stepped.{Stepped}
 use Rattle.listed.specs.Record.{view, Ready}

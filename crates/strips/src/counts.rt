@@ -12,11 +12,7 @@ pub fn pages_of(counts: &[u32], packet: Packet) -> u32
     ensures count { result ≡ get_or counts.now packet.0 0 }
     ensures pages { result ≡ length (get_or (strips_from 0 counts.now) packet.0 []) }
 {
-    let k = packet.0 as usize;
-    if counts.len() <= k {
-        return 0;
-    }
-    counts[k]
+    counts.get(packet.0 as usize).copied().unwrap_or(0)
 }
 
 // The chip of strips: each packet's pages are the first of its own strip.
@@ -25,14 +21,9 @@ pub struct Strips;
 impl Layout for Strips {
     ghost layout = { strips };
 
-    // Where each packet has pages it is the number of all, which is no packet's.
+    // Where each packet has pages it is their number, which is no packet's. 0 is "no pages", of a count as of a set.
     fn lowest_unallocated(counts: &[u32]) -> Packet {
-        for (k, pages) in counts.iter().enumerate() {
-            if *pages == 0 {
-                return Packet(k as u8);
-            }
-        }
-        Packet(counts.len() as u8)
+        Packet(sets::lowest_unallocated(counts) as u8)
     }
 
     fn is_allocated(counts: &[u32], packet: Packet) -> bool {

@@ -20,14 +20,11 @@ fn counts_good(counts: &[u32], free: u32, size: usize) -> bool
     ensures { Decides result (GoodCounts size free counts.now) }
 {
     let mut sum = free;
-    let mut k = 0;
-    while k < counts.len() {
-        let pages = counts[k];
+    for &pages in counts {
         if STRIP_PAGES < pages {
             return false;
         }
         sum += pages;
-        k += 1;
     }
     sum as usize == size
 }
@@ -41,22 +38,12 @@ impl Ordered for Strips {
     // for page sets may be handed the counts: 0 is "no pages" in both.
     fn well_formed(words: &[u16], counts: &[u32], queues: &[u8]) -> bool {
         let size = state::size_in(words);
-        if !state::is_part(size) {
-            return false;
-        }
-        if !words_good(words, size) {
-            return false;
-        }
-        if !empty_from(counts, size) {
-            return false;
-        }
-        if !counts_good(counts, free_count(words), size) {
-            return false;
-        }
-        if !request_good(words[MIR], words[PACKET], words[WAITING]) {
-            return false;
-        }
-        queues_good(words, counts, queues, size)
+        state::is_part(size)
+            && words_good(words, size)
+            && empty_from(counts, size)
+            && counts_good(counts, free_count(words), size)
+            && request_good(words[MIR], words[PACKET], words[WAITING])
+            && queues_good(words, counts, queues, size)
     }
 
     ghost long = { λ n. omega arith };
