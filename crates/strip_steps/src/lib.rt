@@ -6,8 +6,6 @@ mod arrivals; // arrivals.rt: a frame arrives
 mod driver; // driver.rt: reads and writes of the sixteen I/O addresses
 mod orders; // orders.rt: MMU commands
 mod resets; // resets.rt: the soft reset by RCR
-mod sends; // sends.rt: a send finishes
 
 pub use arrivals::arrived;
 pub use driver::{read, write};
-pub use sends::finished;

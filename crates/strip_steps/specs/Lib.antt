@@ -1,2 +1,0 @@
--- What the steps of the chip of strips rest on.
-pub mod Sends
