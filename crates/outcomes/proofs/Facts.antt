@@ -1,5 +1,5 @@
 -- What the proofs of this crate need of the latches, and of registers and TX after a send.
-use mathlib.Core.Path.{◌≡◌, refl, ap, sym, ◌∙◌}
+use mathlib.Core.Path.{◌≡◌, refl, ap, ◌∙◌}
 use mathlib.Core.Bool.{Bool, true, false, cond, not, ◌||◌}
 use mathlib.Core.List.{List, [], ◌∷◌}
 use Prim.Native.Nat.{ℕ, ◌+◌, ◌*◌, ◌^◌, ◌<◌}
@@ -18,11 +18,6 @@ use Rattle.state.specs.Stores.{store_tcr, store_ephsr, store_ecr, store_latches}
 use Rattle.pool.specs.Queues.{Rejoins, rejoins_chip}
 use Rattle.outcomes.specs.Sent.{sent_by, Sent}
 
--- A latch stays where nothing sets it.
-pub or_false : (a : Bool) {b : Bool} → b ≡ false → a ≡ a || b
-or_false true e = refl
-or_false false e = sym e
-
 four_set : (x : ℕ) (b c : Bool) → x ≡ 4 * flag b + 16 * flag c → set_bit 2 x ≡ 4 + 16 * flag c
 unfolding set_bit clear_bit flag
 four_set x true true h = rw h refl
@@ -34,6 +29,12 @@ four_set x false false h = rw h refl
 pub latch_set : (x : ℕ) → Latches x → Latches (set_bit 2 x)
 unfolding flag
 latch_set x e = rw (bit_set 2 x, bit_set_other 2 x 4 (λ n. absurd (omega arith))) (four_set x (bit 2 x) (bit 4 x) e)
+
+pub two_set : (x : ℕ) → bit 2 (set_bit 2 x) ≡ true
+two_set x = bit_set 2 x
+
+pub four_kept : (x : ℕ) → bit 4 (set_bit 2 x) ≡ bit 4 x
+four_kept x = bit_set_other 2 x 4 (λ n. absurd (omega arith))
 
 -- The four stores are the registers' changes; x are the nibbles of ECR.
 module _ (is_good : Bool) (s : Send) (bits : ℕ) (emptied : Bool) (w : List ℕ) (k : Kept w) {t e n l : ℕ} {full : Bool} {x : List ℕ} where

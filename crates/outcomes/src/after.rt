@@ -9,20 +9,23 @@ ghost use Rattle.outcomes.specs.Sent.{sent_by, Sent};
 use crate::Send;
 use crate::nibbles::{any_full, new_ecr, tallied};
 use crate::status::{new_ephsr, new_tcr};
+use pool::Tx;
 use sets::Packet;
 use state::{ECR, EPHSR, LATCHES, TCR, TX_COUNT, flags};
 
 // TX EMPTY is set where the packet that leaves TX is its last; RX_OVRN stays.
+#[tactic(auto, using(crate::proofs::Facts::latch_set, crate::proofs::Facts::two_set, crate::proofs::Facts::four_kept))]
 fn new_latches(latches: u16, tx: u16) -> u16
     requires { Latches latches }
     ensures latched { Latches result }
     ensures empty { bit 2 result ≡ bit 2 latches || eqb tx 1 }
     ensures overrun { bit 4 result ≡ bit 4 latches }
 {
-    if tx != 1 {
-        return latches;
+    if tx == 1 {
+        bits::with_set(latches, flags::TX_EMPTY)
+    } else {
+        latches
     }
-    bits::with_set(latches, flags::TX_EMPTY)
 }
 
 // `address` is the bit of the address's kind.
@@ -47,5 +50,5 @@ pub fn after_send(words: &mut [u16], queues: &mut [u8], s: Send, good: bool, add
     ensures sent { Sent good (send_of s) address words.old queues.old words.new queues.new }
 {
     set_registers(words, s, good, address);
-    pool::leave_tx(words, queues)
+    pool::leave::<Tx>(words, queues)
 }

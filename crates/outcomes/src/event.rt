@@ -6,7 +6,7 @@ ghost use Rattle.outcomes.specs.Numbers.{send_of};
 use crate::Send;
 use state::flags;
 
-// The outcomes, as the input numbers them.
+// The outcomes, as the input numbers them: no enum, as `is_within` and `is_good` answer for every number.
 const GOOD: u8 = 0;
 
 pub const SIXTEEN_COLLISIONS: u8 = 1;
@@ -20,33 +20,27 @@ pub const SQE_MISSING: u8 = 4;
 pub const UNDERRUN: u8 = 5;
 
 // Refusal 11 where not. Sixteen collisions are that outcome, and no other.
+#[tactic(auto, unfolding(rules::specs::Send::in_limits))]
 pub fn is_within(s: Send) -> bool
     ensures { result ≡ in_limits (send_of s) }
 {
-    if s.outcome > UNDERRUN {
-        return false;
+    if s.outcome > UNDERRUN || s.deferral > 2 {
+        false
+    } else if s.outcome == SIXTEEN_COLLISIONS {
+        s.collisions == 16
+    } else {
+        s.collisions <= 15
     }
-    if s.deferral > 2 {
-        return false;
-    }
-    if s.outcome == SIXTEEN_COLLISIONS {
-        return s.collisions == 16;
-    }
-    s.collisions <= 15
 }
 
 // Lost carrier is good unless MON_CSN is set and FDSE clear; a missing SQE is good unless STP_SQET is set.
+#[tactic(auto, unfolding(rules::specs::Send::good))]
 pub fn is_good(tcr: u16, outcome: u8) -> bool
     ensures { result ≡ good tcr outcome }
 {
     match outcome {
         GOOD => true,
-        LOST_CARRIER => {
-            if !bits::is_set(tcr, flags::MON_CSN) {
-                return true;
-            }
-            bits::is_set(tcr, flags::FDSE)
-        }
+        LOST_CARRIER => !bits::is_set(tcr, flags::MON_CSN) || bits::is_set(tcr, flags::FDSE),
         SQE_MISSING => !bits::is_set(tcr, flags::STP_SQET),
         _ => false,
     }

@@ -27,6 +27,13 @@ module _ {is_good : Bool} {s : Send} {bits : ℕ} {w q w' q' : List ℕ} (t : Se
   pub same_completion : QueuesIn (figures w) q → word w' 9 ≡ word w 9
   same_completion o = t.queues.completion.many ∙ ap (λ (c : Chip). length c.pool.completion) (t.chip paged [] []) ∙ sym o.completion.many
 
+  -- as many pages are waited for, and the state is in order beside any packets' pages
+  pub same_waiting : word w' 23 ≡ word w 23
+  same_waiting = ap (λ (c : Chip). c.regs.numbers.waiting) (t.chip paged [] [])
+
+  pub sent_sound : {l : Layout} {sets : List ℕ} → SoundOf l w sets q → SoundOf l w' sets q'
+  sent_sound o = record { kept = t.kept; queues = t.queues; sets = record { part = o.sets.part; free = t.free ∙ o.sets.free; small = o.sets.small } }
+
   -- the status word: EPHSR as it is shown
   abbrev status_in : ℕ
   status_in = shown (bit 0 (word w' 15)) (word w' 1)

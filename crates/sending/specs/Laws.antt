@@ -1,5 +1,5 @@
 -- What a send does, with its tests answered: what the proofs of the code cite in place of the text of `finish`.
-use Rattle.std.specs.Prelude.{◌≡◌, Bool, true, false, cond, ℕ, ◌*◌, ◌≤◌, ◌<◌, ltb, get_or, drop, Ok, Err}
+use Rattle.std.specs.Prelude.{◌≡◌, Bool, true, false, cond, ℕ, ◌*◌, ◌≤◌, ◌<◌, ltb, get_or, drop, Ok}
 use Rattle.std.proofs.Common.{ap, ap₂, ◌∙◌}
 use Rattle.std.proofs.Math.Path.{sym}
 use mathlib.Core.List.{List}
@@ -10,7 +10,6 @@ use Rattle.rules.specs.Chip.{Layout, Chip, pages_at}
 use Rattle.rules.specs.Answers.{Turn, refused, refused_with, over}
 use Rattle.lists.specs.Facts.{no_head, head_and_rest}
 use Rattle.rules.specs.Send.{Send, in_limits, byte_count, good, put_out, auto_release, no_place, send_head, if_usable, if_sendable, by_tx_head, finish}
-use Rattle.state.specs.declared.Refusal.TheVariants as refusal
 use Rattle.state.specs.Meaning.{reply_of}
 use Rattle.on_wire.specs.PutsOut.{PutsOut}
 use Rattle.sending.specs.Sends.{SendsOf, completed, CompletesOf, head_sent}
@@ -54,7 +53,7 @@ module _ (s : Send) (c : Chip) (out : List ℕ) where
   head = get_or c.pool.tx 0 0
 
   -- all that a send does
-  abbrev done : List ℕ → ℕ → Turn
+  abbrev pub done : List ℕ → ℕ → Turn
   done pages count = record {
     reply = record { number = 0; value = length (put_out c.regs.sending.tcr count pages c.memory) };
     chip = completed (auto_release is_good c.regs) is_good s pages c;
