@@ -14,20 +14,14 @@ use state::flags;
 pub fn is_released(good: bool, control: u16) -> bool
     ensures { result ≡ (good && bit 11 control) }
 {
-    if !good {
-        return false;
-    }
-    bits::is_set(control, flags::AUTO_RELEASE)
+    good && bits::is_set(control, flags::AUTO_RELEASE)
 }
 
 // Refusal 14: the number would join completion, which has as many entries as the part has packets.
 pub fn is_full(released: bool, count: u16, packets: usize) -> bool
     ensures { result ≡ (not released && leb packets count) }
 {
-    if released {
-        return false;
-    }
-    packets <= count as usize
+    !released && packets <= usize::from(count)
 }
 
 // The packet is released, or its number joins completion.
