@@ -6,6 +6,7 @@ mod check; // check.rt: the frame check sequence
 mod length; // length.rt: how much is stored of a frame, and its status
 mod judge; // judge.rt: the verdict
 
+// `judged` and `status_of` may ask for no narrower type than two slices and a flag, so the parts too are lent the words and the frame as slices.
 pub use judge::judged;
 pub use length::{count_of, data_length, pages_for, status_of};
 

@@ -30,12 +30,6 @@ pub latch_set : (x : ℕ) → Latches x → Latches (set_bit 2 x)
 unfolding flag
 latch_set x e = rw (bit_set 2 x, bit_set_other 2 x 4 (λ n. absurd (omega arith))) (four_set x (bit 2 x) (bit 4 x) e)
 
-pub two_set : (x : ℕ) → bit 2 (set_bit 2 x) ≡ true
-two_set x = bit_set 2 x
-
-pub four_kept : (x : ℕ) → bit 4 (set_bit 2 x) ≡ bit 4 x
-four_kept x = bit_set_other 2 x 4 (λ n. absurd (omega arith))
-
 -- The four stores are the registers' changes; x are the nibbles of ECR.
 module _ (is_good : Bool) (s : Send) (bits : ℕ) (emptied : Bool) (w : List ℕ) (k : Kept w) {t e n l : ℕ} {full : Bool} {x : List ℕ} where
   pub registers_set : x ≡ tally is_good s (word w 3) → full ≡ any_at15 x → t ≡ cond is_good (word w 0) (clear_bit 0 (word w 0))

@@ -22,7 +22,7 @@ pub fn is_released(good: bool, control: u16) -> bool
 pub fn is_full(released: bool, count: u16, packets: usize) -> bool
     ensures { result ≡ (not released && leb packets count) }
 {
-    !released && packets <= count as usize
+    !released && packets <= usize::from(count)
 }
 
 // The packet is released, or its number joins completion.

@@ -1,9 +1,10 @@
 // The nibbles of ECR.
 ghost use Rattle.std.specs.Prelude.{◌≡◌, ◌≤◌};
 ghost use Rattle.rules.specs.Send as rules;
-ghost use Rattle.outcomes.specs.Numbers.{send_of, tally_of, Small};
+ghost use Rattle.outcomes.specs.Numbers.{ending_of, tally_of, Small};
 
-use crate::{Send, Tally};
+use crate::Tally;
+use crate::event::Ending;
 
 // A nibble stops at this count.
 const FULL: u16 = 15;
@@ -14,19 +15,19 @@ pub fn counted(on: bool, x: u16) -> u16
     requires { x ≤ 15 }
     ensures { (result ≡ rules.counted on x) × (result ≤ 15) }
 {
-    if on { FULL.min(x + 1) } else { x }
+    if on && x < FULL { x + 1 } else { x }
 }
 
 // A failed send after one collision counts in neither nibble of collisions.
 #[tactic(auto, unfolding(rules::specs::Send::tally, rules::specs::Send::nibble))]
-pub fn tallied(good: bool, s: Send, ecr: u16) -> Tally
-    ensures { (tally_of result ≡ rules.tally good (send_of s) ecr) × Small result }
+pub fn tallied(good: bool, ending: Ending, ecr: u16) -> Tally
+    ensures { (tally_of result ≡ rules.tally good (ending_of ending) ecr) × Small result }
 {
     Tally {
-        single: counted(good && s.collisions == 1, ecr % 16),
-        several: counted(2 <= s.collisions, ecr / 16 % 16),
-        deferred: counted(s.deferral == 1, ecr / 256 % 16),
-        excessive: counted(s.deferral == 2, ecr / 4096 % 16),
+        single: counted(good && ending.collisions == 1, ecr % 16),
+        several: counted(2 <= ending.collisions, ecr / 16 % 16),
+        deferred: counted(ending.deferral == 1, ecr / 256 % 16),
+        excessive: counted(ending.deferral == 2, ecr / 4096 % 16),
     }
 }
 

@@ -4,4 +4,4 @@ use Rattle.outcomes.proofs.Facts.{leaves}
 use Rattle.outcomes.proofs.after.after_send.Goals as goal
 
 pub returns-clause-sent : goal.returns-clause-sent
-returns-clause-sent c = leaves c.args.good (send_of c.args.s) c.args.address c.requires.1 c.requires.2 c.set_registers.ensures c.leave.ensures.left
+returns-clause-sent c = leaves c.args.good (send_of c.args.s) c.args.address c.requires.1 c.requires.2 (rw c.of.ensures at c.set_registers.ensures) c.leave.ensures.left
