@@ -1,7 +1,7 @@
 -- The TX head: where it lies, its byte count, and what a send of it is with its tests answered.
 use Rattle.std.specs.Prelude.{◌≡◌, Bool, true, false, not, ◌&&◌, List, [], ℕ, ◌*◌, ◌≤◌, ◌<◌, leb, ltb, length, get_or}
 use Rattle.std.proofs.Common.{ap, ap₂, sym, ◌∙◌, arith}
-use borrow.Author.Tests.{ltb-false}
+use borrow.Author.Tests.{leb-false, ltb-false}
 use Rattle.rules.specs.Bits.{bit}
 use Rattle.rules.specs.Chip.{Layout, Chip, pages_at}
 use Rattle.rules.specs.Answers.{refusal, refusal_with}
@@ -9,6 +9,7 @@ use Rattle.rules.specs.Packet.{get_bytes}
 use Rattle.rules.specs.Data.{value_of}
 use Rattle.rules.specs.Send.{Send, byte_count, good, auto_release, no_place}
 use Rattle.lists.specs.Bytes.{value_word}
+use Rattle.wellformed.specs.Parts.{part_few}
 use Rattle.queues.specs.Parts.{slots}
 use Rattle.state.specs.Meaning.{Answer, reply_of}
 use Rattle.state.specs.View.{word, queue_in, registers_in, lists_of, view_of}
@@ -75,3 +76,10 @@ module _ {l : Layout} {w s q : List ℕ} (r : ReadyOf l w s q) (sd : Send) (mem 
 
   pub full_told : {full : Bool} → full ≡ (not released && leb (length s) (word w 9)) → full ≡ no_place sd (view_of l w s q mem)
   full_told f = f ∙ ap₂ (λ (x t : Bool). not x && t) release_told (ap₂ leb (sym r.well.count) r.sound.queues.completion.many)
+
+-- Where it is not, a packet that is kept has room there.
+module _ {l : Layout} {w s q : List ℕ} (r : ReadyOf l w s q) {released full : Bool} (t : full ≡ (not released && leb (length s) (word w 9))) where
+  pub room_left : full ≡ false → released ≡ false → word w 9 < 24
+  room_left f kept =
+      let open_still = sym (ap (λ (x : Bool). not x && leb (length s) (word w 9)) kept) ∙ sym t ∙ f in
+      omega (arith, part_few r.sound.sets.part, leb-false (length s) (word w 9) open_still)

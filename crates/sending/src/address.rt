@@ -13,12 +13,7 @@ fn is_broadcast<L: Store>(memory: &[u8], home: L::Home) -> bool
     requires { L.Fits home memory.now × (10 ≤ 256 * length (L.pages_in home)) }
     ensures { result ≡ broadcast (get_bytes 6 4 (L.pages_in home) memory.now) }
 {
-    for at in 4..10 {
-        if L::read_byte(memory, home, Address(at)) != 0xff {
-            return false;
-        }
-    }
-    true
+    (4..10).all(|at| L::read_byte(memory, home, Address(at)) == 0xff)
 }
 
 pub fn address_bits<L: Store>(memory: &[u8], home: L::Home) -> u16

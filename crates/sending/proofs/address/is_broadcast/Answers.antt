@@ -1,20 +1,20 @@
-use Rattle.std.specs.Prelude.{refl}
-use Rattle.std.proofs.Common.{sym, ◌∙◌}
-use Rattle.rules.specs.Receive.{broadcast}
-use Rattle.sending.proofs.Addressed.{ones_on, ones_not, ones_end}
+-- What the chain finds at each address is what the rules ask of the six bytes.
+use Rattle.std.specs.Prelude.{refl, ℕ, eqb}
+use Rattle.std.proofs.Common.{◌∙◌, rules}
+use Rattle.std.proofs.lemmas.Iterator.{YieldsList-from_range}
+use Rattle.std.proofs.lemmas.Iterator.Search.{all_from_yields_List}
+use borrow.Author.Tests.{tests}
+use Rattle.rules.specs.Packet.{get_bytes}
+use Rattle.rules.specs.Data.{value_of}
+use Rattle.sending.proofs.Addressed.{broadcast_lem}
 use Rattle.sending.proofs.address.is_broadcast.Goals as goal
 
-pub loop-at-init : goal.loop-at-init
-unfolding broadcast
-loop-at-init g c = refl
-
-pub loop-at-preserved : goal.loop-at-preserved
-loop-at-preserved g c =
-    c.loop-at.invariant ∙ ones_on 10 c.loop-at.at c.loop-at-test.true (g.L.Store.pages_in c.args.home) c.args.memory.now (sym c.read_byte.ensures ∙ c.if-read_byte.false)
-
-pub returns-then-read_byte : goal.returns-then-read_byte
-returns-then-read_byte g c =
-    sym (c.loop-at.invariant ∙ ones_not 10 c.loop-at.at c.loop-at-test.true (g.L.Store.pages_in c.args.home) c.args.memory.now (λ e. c.if-read_byte.true (c.read_byte.ensures ∙ e)))
-
 pub returns : goal.returns
-returns g c = sym (c.loop-at.invariant ∙ ones_end 10 c.loop-at.at c.loop-at-test.false (g.L.Store.pages_in c.args.home) c.args.memory.now)
+returns g c =
+    let pages = g.L.Store.pages_in c.args.home in
+    let memory = c.args.memory.now in
+    let found =
+    all_from_yields_List (λ (at : ℕ). eqb (value_of (get_bytes 1 at pages memory)) 255) _ _ _ c.all.ensures.ran (YieldsList-from_range 4 10 6 refl refl)
+    (λ x b q k. search (rules, tests))
+    in
+    found ∙ broadcast_lem pages memory
