@@ -106,21 +106,25 @@ fn accessed<L: Chip>(
 pub fn access<L: Chip>(r: Registers, p: Pages, q: Queues, memory: &mut [u8], a: Request) -> Returned
     ensures { AnswersBy L.layout (rules.driver (access_of a)) r p q memory.old result memory.new [] }
 {
-    let mut words = r.words;
-    let mut sets = p.sets;
-    let mut slots = q.slots;
-    let answer = if in_order::<L>(&words, &sets, &slots, memory) {
-        accessed::<L>(&mut words, &mut sets, &mut slots, memory, a)
-    } else {
-        Err(Refusal::Damaged)
+    let mut back = Returned {
+        answer: Err(Refusal::Damaged),
+        registers: r,
+        pages: p,
+        queues: q,
     };
-    let registers = Registers { words };
-    let pages = Pages { sets };
-    let queues = Queues { slots };
-    Returned {
-        answer,
-        registers,
-        pages,
-        queues,
+    if in_order::<L>(
+        &back.registers.words,
+        &back.pages.sets,
+        &back.queues.slots,
+        memory,
+    ) {
+        back.answer = accessed::<L>(
+            &mut back.registers.words,
+            &mut back.pages.sets,
+            &mut back.queues.slots,
+            memory,
+            a,
+        );
     }
+    back
 }
