@@ -1,5 +1,5 @@
 #!/usr/bin/env python3
-"""Lists each function that a crate exports, those of its traits and its conversions too: who uses it, what it promises, and what leaves one result; and quotes the demands.
+"""Lists each function that a crate exports, those of its traits, methods and conversions too: who uses it, what it promises, and what leaves one result; and quotes the demands.
 
     list.py                          prints the table
     list.py --check FILE             fails unless FILE has this table, and the records of demands/specs/Demands as they stand, each between its two marks
@@ -104,7 +104,7 @@ class Function:
 
     def lent(self):
         """The arguments that are lent to be changed."""
-        return re.findall(r"(\w+): &mut ", self.arguments)
+        return [name or "self" for name in re.findall(r"(\w+): &mut |&mut self\b", self.arguments)]
 
 
 def find_function(crate, path, text, name):
@@ -130,6 +130,17 @@ def of_traits(crate, files):
     return found
 
 
+def of_methods(crate, files):
+    """The methods of the types that a crate exports, and their functions."""
+    found = []
+    for text in files.values():
+        for at in re.finditer(r"^impl (\w+)(?:<[^<>]*>)? \{", text, re.M):
+            if at[1] in exported_names(files):
+                inside = text[at.end() : closing(text, at.end() - 1)]
+                found += [Function(crate, f"{at[1]}::{m[1]}", inside, m.start(1) - 7) for m in re.finditer(r"^    pub fn (\w+)", inside, re.M)]
+    return found
+
+
 def of_conversions(crate, files):
     """The conversions `From` into a type that a crate exports: what they promise stands in `from_gives`, over the argument and the result."""
     found = []
@@ -149,7 +160,7 @@ def of_conversions(crate, files):
 def exported(crate, files):
     if "lib" not in files:
         return []
-    found = of_traits(crate, files) + of_conversions(crate, files)
+    found = of_traits(crate, files) + of_methods(crate, files) + of_conversions(crate, files)
     for line in re.findall(r"^pub (?:use|mod) .*$", files["lib"], re.M):
         if not re.fullmatch(r"pub (?:use \w+::\w+|mod \w+);", line.strip()):
             fail(f"{crate}: not understood: {line}")
@@ -191,7 +202,8 @@ def uses(text, f):
     if "::" in f.path:
         module, name = f.path.rsplit("::", 1)
         if module[0].isupper():
-            return bool(re.search(rf"\b(?:[A-Z]|Self|{module})::{name}\(|\bimpl (?:\w+::)?{module} for ", text))
+            called = rf"\b(?:[A-Z]|Self|{module})::{name}\(|\bimpl (?:\w+::)?{module} for "
+            return bool(re.search(called, text) or re.search(rf"\b{f.crate}::", text) and re.search(rf"\.{name}\(", text))
         return bool(re.search(rf"\buse {f.crate}::{module};", text) and re.search(rf"(?<!:)\b{f.path}\(", text))
     return False
 
