@@ -90,17 +90,14 @@ pub fn answer_all(
     ensures answered { Answered (form_of watching) (length input.now / 8) number.old input.now (holding (view words.old sets.old queues.old memory.old) (take have.old wire.old) out.old) words.new sets.new queues.new memory.new wire.new have.new out.new lines.new end.new number.new }
     ensures fits { end.new ≤ length lines.old }
 {
-    let mut k = 0;
     *end = 0;
     let mut counter = lines::counter_of(*number);
-    while k < input.len() / 8 {
-        let bytes = &input[8 * k..8 * k + 8];
+    for bytes in input.chunks_exact(8) {
         let given = turns::answer::<Paged>(words, sets, queues, memory, wire, have, out, bytes);
         let sent = records::is_send(bytes);
         let up = interrupts::line_up(words);
         *end = print(watching, lines, *end, counter, given, sent, up, out);
         counter = lines::next(counter);
-        k += 1;
     }
     *number = counter.number;
 }

@@ -22,7 +22,7 @@ use state::{Answer, NO_PACKET, Refusal};
 
 // The commands of the MMU command register.
 #[derive(Drop)]
-pub enum Order {
+enum Order {
     Nothing,
     Allocate(u32),
     Reset,

@@ -3,3 +3,4 @@ pub mod Hex
 pub mod Packed
 pub mod Parts
 pub mod Bytes
+pub mod Decimals

@@ -112,9 +112,6 @@ module _ (a : ℕ) (rest pages : List ℕ) (e : rest ≡ drop (a / 256) pages) w
   whole_address : 256 * (a / 256) + a % 256 ≡ a
   whole_address = omega arith
 
-  pub place_rest : place rest (a % 256) ≡ place pages a
-  place_rest = ap (λ (l : List ℕ). place l (a % 256)) e ∙ place_on (a / 256) (a % 256) pages ∙ ap (place pages) whole_address
-
   pub get_rest : (n : ℕ) (m : List ℕ) → get_bytes n (a % 256) rest m ≡ get_bytes n a pages m
   get_rest n m =
       ap (λ (l : List ℕ). get_bytes n (a % 256) l m) e

@@ -33,6 +33,7 @@ pub fn allocate<L: Layout>(words: &mut [u16], sets: &mut [u32], need: u32)
 }
 
 // An allocation that waits is granted where as many pages are free.
+#[tactic(auto, using(crate::proofs::Granting::none_waits))]
 fn settle<L: Layout>(words: &mut [u16], sets: &mut [u32])
     requires { Kept words.old × PagesIn L.layout (figures words.old) sets.old × GoodLists L.layout (length sets.old) (lists_of L.layout sets.old) × (word words.old 23 ≤ 8) }
     ensures { AltersOf L.layout rules.settle words.old sets.old words.new sets.new }

@@ -8,7 +8,7 @@ ghost use Rattle.records.specs.Event.{meant};
 use state::{Part, Width};
 
 // Width, offset and value of an access, the count of wire bytes, the flag alignment, a send's outcome, collisions and deferral, the link's byte, and the part's.
-#[derive(Drop)]
+#[derive(Clone, Copy)]
 pub enum Event {
     Read(Width, u8),
     Write(Width, u8, u16),
@@ -24,8 +24,7 @@ pub fn event_of(bytes: &[u8]) -> Event
     requires { length bytes.now ≡ 8 }
     ensures { meant result bytes.now ≡ event_of bytes.now }
 {
-    let kind = bytes[0];
-    match kind {
+    match bytes[0] {
         1 => Event::Read(Width::Byte, bytes[1]),
         2 => Event::Read(Width::Word, bytes[1]),
         3 => Event::Write(Width::Byte, bytes[1], bits::word(bytes[2], bytes[3])),

@@ -1,5 +1,6 @@
 -- Record 1 may ask for the part (document 02, W9). The chip powers up behind it, as the part that it asks for or as the LAN91C96; either way the record is answered on the bench that the rules start with.
-use Rattle.std.specs.Prelude.{◌≡◌, refl, Bool, true, false, cond, ◌⊎◌, List, ◌++◌, ℕ, ◌+◌, ◌*◌, ◌-◌, ◌≤◌, ◌<◌, ltb, length, take, replicate, Ok, Option, None, Some}
+use Rattle.std.specs.Prelude.{◌≡◌, refl, Bool, true, false, cond, ◌⊎◌, List, ◌++◌, ℕ, ◌+◌, ◌*◌, ◌-◌, ◌≤◌, ◌<◌, ltb, length, take, replicate, Ok, Option, None, Some, is_some}
+use Rattle.std.specs.Option.{unwrap_or}
 use Rattle.std.proofs.Common.{ap, sym, subst, ◌∙◌, true≢false, inl, inr, arith, lt-ltb, take_at}
 use Rattle.std.proofs.lemmas.List.{length-replicate, replicate-append-replicate}
 use Rattle.rules.specs.Parts.{lan91c96}
@@ -62,6 +63,15 @@ part_asked p e q = sym e ∙ ap packets_named q
 
 pub none_asked : {r : Option Part} {n : ℕ} → packets_named r ≡ n → r ≡ None → n ≡ 0
 none_asked e q = sym e ∙ ap packets_named q
+
+-- What powers up is the part that is named, else the LAN91C96; and that one is named, or none, says whether record 1 asked for it.
+pub starts_named : (r : Option Part) (e : Event) → packets_named r ≡ asks_for e → packets_of (unwrap_or r part.Lan91c96) ≡ starts_as e
+starts_named (Some p) e q = q ∙ sym (starts_part e (subst (λ (n : ℕ). 0 < n) q (part_some p)))
+starts_named None e q = sym (starts_none e (sym q))
+
+pub asked_named : (r : Option Part) (e : Event) → packets_named r ≡ asks_for e → AskedBy (is_some r) e
+asked_named (Some p) e q = (λ t. subst (λ (n : ℕ). 0 < n) q (part_some p), λ f. absurd (true≢false f))
+asked_named None e q = (λ t. absurd (true≢false (sym t)), λ f. sym q)
 
 -- So record 1 finds the part that it asked for, or asks for none,
 pub opens_first : {t : Bool} {bytes w s q mem wire : List ℕ} {have : ℕ} {out : List ℕ} → Starting bytes w s q mem wire have out → AskedBy t (asked bytes) → Opens t 1 bytes (holding (view_of strips w s q mem) (take have wire) out)

@@ -10,7 +10,7 @@ ghost use Rattle.turns.specs.Turns.{HeldOf, TurnsOf, Gathered};
 ghost use Rattle.turns.specs.Served.{asked};
 
 use chip::Chip;
-use records::{Event, Gathering};
+use records::Event;
 use state::{Answer, Refusal};
 
 // Wire bytes join those gathered, or are refused. This looks at no chip.
@@ -18,14 +18,8 @@ pub fn gather_more(wire: &mut [u8], have: &mut usize, bytes: &[u8], count: u8) -
     requires { (length wire.old ≡ 2048) × (have.old ≤ 2048) × (length bytes.now ≡ 8) }
     ensures { Gathered wire.old have.old bytes.now count result wire.new have.new }
 {
-    let gathering = records::gathered(wire, *have, bytes, count);
-    match gathering {
-        Gathering::More(n) => {
-            *have = n;
-            Ok(0)
-        }
-        Gathering::Refused => Err(Refusal::OutsideLimits),
-    }
+    *have = records::gathered(wire, *have, bytes, count).ok_or(Refusal::OutsideLimits)?;
+    Ok(0)
 }
 
 // The gathered bytes arrive as a frame, and gathering starts anew whatever the answer.

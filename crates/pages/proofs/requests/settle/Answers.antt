@@ -1,15 +1,11 @@
--- Nothing waits, too few pages are free, or what waits is granted.
+-- Too few pages are free, or what waits is granted; that nothing waits the check tells by `none_waits`, so no fact of that test is named here.
 use Rattle.std.specs.Prelude.{◌≡◌, refl, List, ℕ, ◌/◌, length}
 use Rattle.std.proofs.Common.{sym, arith}
 use Rattle.rules.specs.Chip.{Layout, free_for}
-use Rattle.wellformed.specs.Settle.{settle_none, settle_later, settle_now}
+use Rattle.wellformed.specs.Settle.{settle_later, settle_now}
 use Rattle.state.specs.View.{word, lists_of, view_of}
 use Rattle.pages.specs.Pages.{free_told, alters_as}
 use Rattle.pages.proofs.requests.settle.Goals as goal
-
--- The first test's facts are not named by its text: another test has other facts, and these then fail.
-pub returns-then-need-eq0 : goal.returns-then-need-eq0
-returns-then-need-eq0 g c = record { chip = λ q mem. sym (settle_none (view_of g.L.Layout.layout c.args.words.now c.args.sets.now q mem) (omega arith)); still = refl; kept = c.requires.0; sets = c.requires.1 }
 
 pub returns-then-free_count-need : goal.returns-then-free_count-need
 returns-then-free_count-need g c =
