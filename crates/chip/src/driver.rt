@@ -102,7 +102,7 @@ fn accessed<L: Chip>(
     }
 }
 
-// An access of the driver, on any record.
+// An access of the driver, on any record. It works on the record where it is given back: with a copy beside it, as in `frame`, it takes more than 1,024 bytes of stack.
 pub fn access<L: Chip>(r: Registers, p: Pages, q: Queues, memory: &mut [u8], a: Request) -> Returned
     ensures { AnswersBy L.layout (rules.driver (access_of a)) r p q memory.old result memory.new [] }
 {

@@ -44,8 +44,11 @@ pub fn power_up(part: Part) -> Returned
 pub fn line<L: Chip>(r: Registers, p: Pages, q: Queues) -> bool
     ensures { LinesBy L.layout r p q result }
 {
-    if !L::well_formed(&r.words, &p.sets, &q.slots) {
+    let words = r.words;
+    let sets = p.sets;
+    let slots = q.slots;
+    if !L::well_formed(&words, &sets, &slots) {
         return false;
     }
-    interrupts::line_up(&r.words)
+    interrupts::line_up(&words)
 }

@@ -52,26 +52,21 @@ pub fn frame<L: Chip>(
 ) -> Returned
     ensures { AnswersBy L.layout (rules.frame (frame_of bytes.now alignment)) r p q memory.old result memory.new [] }
 {
-    let mut back = Returned {
-        answer: Err(Refusal::Damaged),
-        registers: r,
-        pages: p,
-        queues: q,
+    let mut words = r.words;
+    let mut sets = p.sets;
+    let mut slots = q.slots;
+    let answer = if in_order::<L>(&words, &sets, &slots, memory) {
+        arrived_whole::<L>(&mut words, &mut sets, &mut slots, memory, bytes, alignment)
+    } else {
+        Err(Refusal::Damaged)
     };
-    if in_order::<L>(
-        &back.registers.words,
-        &back.pages.sets,
-        &back.queues.slots,
-        memory,
-    ) {
-        back.answer = arrived_whole::<L>(
-            &mut back.registers.words,
-            &mut back.pages.sets,
-            &mut back.queues.slots,
-            memory,
-            bytes,
-            alignment,
-        );
+    let registers = Registers { words };
+    let pages = Pages { sets };
+    let queues = Queues { slots };
+    Returned {
+        answer,
+        registers,
+        pages,
+        queues,
     }
-    back
 }

@@ -42,25 +42,21 @@ pub fn linked_whole<L: Chip>(
 pub fn link<L: Chip>(r: Registers, p: Pages, q: Queues, memory: &[u8], up: u8) -> Returned
     ensures { AnswersBy L.layout (rules.link up) r p q memory.now result memory.now [] }
 {
-    let mut back = Returned {
-        answer: Err(Refusal::Damaged),
-        registers: r,
-        pages: p,
-        queues: q,
+    let mut words = r.words;
+    let sets = p.sets;
+    let slots = q.slots;
+    let answer = if in_order::<L>(&words, &sets, &slots, memory) {
+        linked_whole::<L>(&mut words, &sets, &slots, memory, up)
+    } else {
+        Err(Refusal::Damaged)
     };
-    if in_order::<L>(
-        &back.registers.words,
-        &back.pages.sets,
-        &back.queues.slots,
-        memory,
-    ) {
-        back.answer = linked_whole::<L>(
-            &mut back.registers.words,
-            &back.pages.sets,
-            &back.queues.slots,
-            memory,
-            up,
-        );
+    let registers = Registers { words };
+    let pages = Pages { sets };
+    let queues = Queues { slots };
+    Returned {
+        answer,
+        registers,
+        pages,
+        queues,
     }
-    back
 }

@@ -67,28 +67,23 @@ pub fn send<L: Chip>(
 ) -> Returned
     ensures { AnswersBy L.layout (rules.sent (record { outcome = outcome; collisions = collisions; deferral = deferral }) out.old) r p q memory.old result memory.new out.new }
 {
-    let mut back = Returned {
-        answer: Err(Refusal::Damaged),
-        registers: r,
-        pages: p,
-        queues: q,
+    let mut words = r.words;
+    let mut sets = p.sets;
+    let mut slots = q.slots;
+    let answer = if in_order::<L>(&words, &sets, &slots, memory) {
+        finished_whole::<L>(
+            &mut words, &mut sets, &mut slots, memory, out, outcome, collisions, deferral,
+        )
+    } else {
+        Err(Refusal::Damaged)
     };
-    if in_order::<L>(
-        &back.registers.words,
-        &back.pages.sets,
-        &back.queues.slots,
-        memory,
-    ) {
-        back.answer = finished_whole::<L>(
-            &mut back.registers.words,
-            &mut back.pages.sets,
-            &mut back.queues.slots,
-            memory,
-            out,
-            outcome,
-            collisions,
-            deferral,
-        );
+    let registers = Registers { words };
+    let pages = Pages { sets };
+    let queues = Queues { slots };
+    Returned {
+        answer,
+        registers,
+        pages,
+        queues,
     }
-    back
 }
