@@ -1,17 +1,18 @@
 -- Bytes as hex digits, and those that a send puts out.
 use mathlib.Core.Path.{◌≡◌, refl, ap, sym, ◌∙◌}
 use mathlib.Core.Bool.{Bool, true, false, cond, ◌&&◌}
-use mathlib.Core.List.{List, [], ◌∷◌, ◌++◌, append_assoc}
+use mathlib.Core.List.{List, [], ◌∷◌, ◌++◌, append_assoc, append-nil}
 use Prim.Native.Nat.{ℕ, ◌+◌, ◌*◌, ◌/◌, ◌%◌, ◌≤◌, ◌<◌}
 use native.Mathlib.Numerals.{add-one}
 use native.Mathlib.Omega.{arith}
 use borrow.Author.Tests.{lt-ltb, le-ltb, ne_eqb}
 use lib.Dec.{eqb}
-use lib.ListN.{length, take, get_or, length-take}
+use lib.ListN.{length, take, drop, get_or, length-take, take-append-drop, drop_of_length-le}
 use lib.Seq.{take-suc}
 use Rattle.rules.specs.Answers.{Reply}
 use Rattle.rules.specs.Bench.{hex_digit}
 use Rattle.rules.specs.Watch.{hex_bytes, put_out}
+use Rattle.lists.specs.Written.{Writes}
 
 -- A digit is a figure, or a letter.
 pub figure : (d : ℕ) → d < 10 → hex_digit d ≡ 0x30 + d
@@ -27,9 +28,6 @@ pub hex_length : (l : List ℕ) → length (hex_bytes l) ≡ 2 * length l
 unfolding hex_bytes
 hex_length [] = refl
 hex_length (x ∷ xs) = omega (arith, hex_length xs)
-
-pub hex_taken : (l : List ℕ) (i : ℕ) → length (hex_bytes (take i l)) ≤ 2 * i
-hex_taken l i = omega (arith, hex_length (take i l), length-take i l)
 
 hex_append : (l m : List ℕ) → hex_bytes (l ++ m) ≡ hex_bytes l ++ hex_bytes m
 unfolding hex_bytes
@@ -67,3 +65,13 @@ sent_length sent r out = go (sent && eqb r.number 0)
     go : (t : Bool) → length (cond t (0x20 ∷ hex_bytes (take r.value out)) []) ≤ 1 + 2 * length out
     go true = omega (arith, hex_length (take r.value out), length-take r.value out)
     go false = omega arith
+
+-- Of a list no more is taken than there is.
+pub take_whole : (l : List ℕ) (n : ℕ) → length l ≤ n → take n l ≡ l
+take_whole l n h = sym (append-nil (take n l)) ∙ ap (λ (d : List ℕ). take n l ++ d) (sym (drop_of_length-le l h)) ∙ take-append-drop n l
+
+-- Nothing is written.
+pub writes_none : (l : List ℕ) (i : ℕ) → Writes l i [] l i
+writes_none l i =
+    let e : i + 0 ≡ i = omega arith in
+    record { buffer = sym (ap (λ (k : ℕ). take i l ++ drop k l) e ∙ take-append-drop i l); place = sym e }

@@ -3,4 +3,3 @@ pub mod Hex
 pub mod Packed
 pub mod Parts
 pub mod Bytes
-pub mod Decimals

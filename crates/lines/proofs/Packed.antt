@@ -9,9 +9,9 @@ use borrow.Author.Tests.{lt-ltb, le-ltb}
 use lib.ListN.{length, take, length-append}
 use Rattle.rules.specs.Bench.{decimal}
 use Rattle.lines.specs.Decimal.{leading, leading_ends, decimal_ends, decimal_length, Bytes, decimal_bytes}
-use Rattle.lines.specs.Word.{packed, bytes8}
+use Rattle.lines.specs.Word.{packed, bytes4, bytes8}
 use Rattle.lines.specs.Counting.{if_short, counter_of, Counts}
-use Rattle.lines.specs.declared.count.Counter.TheInside.{Inside}
+use Rattle.lines.specs.declared.count.Counter.{Counter}
 use Rattle.lines.proofs.Hex.{above, below}
 
 -- Bytes that are packed are below the power that their count says.
@@ -46,6 +46,21 @@ unpacked_in (suc n) (x ∷ l) h k = rw (below x (packed l) h.0, above x (packed 
 unpacked : (l : List ℕ) → Bytes l → length l ≤ 8 → take (length l) (bytes8 (packed l)) ≡ l
 unfolding bytes8 bytes_in
 unpacked l h k = ap (take (length l)) (sym (simp div-div-eq-div-mul)) ∙ unpacked_in 8 l h k
+
+-- Eight bytes are four and four.
+lowest : (x y h : ℕ) → x ≡ h * 256 + y → y % 256 ≡ x % 256
+lowest x y h e = omega arith
+
+pub halves : (x : ℕ) → bytes4 (x % 4294967296) ++ bytes4 (x / 4294967296) ≡ bytes8 x
+unfolding bytes4 bytes8
+halves x =
+    let high = x / 4294967296 in
+    let low = x % 4294967296 in
+    let a = lowest x low (high * 16777216) (omega arith) in
+    let b = lowest (x / 256) (low / 256) (high * 65536) (omega arith) in
+    let c = lowest (x / 65536) (low / 65536) (high * 256) (omega arith) in
+    let d = lowest (x / 16777216) (low / 16777216) high (omega arith) in
+    rw (a, b, c, d) (simp div-div-eq-div-mul)
 
 -- The digits of a number packed so far, from the last one on, and the number x that stands before them.
 pub record Packing (number x text unit size : ℕ) : Type 0 where
@@ -117,7 +132,7 @@ packing_ends {number} p e h =
     record { short = h; packs = p.packs ∙ ap packed (sym all); count = p.count ∙ ap length (sym all); ends = refl; steps = p.steps }
 
 -- a counter from its parts
-abbrev counter : ℕ → ℕ → ℕ → ℕ → ℕ → Inside
+abbrev counter : ℕ → ℕ → ℕ → ℕ → ℕ → Counter
 counter number text unit last size = record { number = number; text = text; unit = unit; last = last; length = size }
 
 -- What is kept of a short number, and of a long one.
@@ -174,10 +189,10 @@ none_counted number h =
     λ i. counter number (none (packed (decimal number)) i) (none (256 ^ (length (decimal number) - 1)) i) (none (number % 10) i) (none (length (decimal number)) i)
 
 -- A counter that has digits has its number's.
-pub has_digits : (c : Inside) → Counts c → 0 < c.length → Digits c.number c.text c.unit c.last c.length
+pub has_digits : (c : Counter) → Counts c → 0 < c.length → Digits c.number c.text c.unit c.last c.length
 has_digits c e h = go (dec_le 100000000 c.number)
   where
-    of : {A : Type 0} (f : Inside → A) → f c ≡ f (counter_of c.number)
+    of : {A : Type 0} (f : Counter → A) → f c ≡ f (counter_of c.number)
     of f = ap f e
 
     go : Dec (100000000 ≤ c.number) → Digits c.number c.text c.unit c.last c.length
@@ -192,13 +207,3 @@ has_digits c e h = go (dec_le 100000000 c.number)
           ends = of (λ x. x.last) ∙ if_short_lem c.number _ short;
           steps = of (λ x. x.unit) ∙ if_short_lem c.number _ short ∙ ap (λ (i : ℕ). 256 ^ (i - 1)) (sym count);
         }
-
--- One that has none has a long number's.
-pub has_none : (c : Inside) → Counts c → c.length ≡ 0 → 0 < c.number
-has_none c e h = go (dec_le 100000000 c.number)
-  where
-    go : Dec (100000000 ≤ c.number) → 0 < c.number
-    go (yes l) = omega arith
-    go (no l) =
-        let few = ap (λ (x : Inside). x.length) e ∙ if_short_lem c.number (length (decimal c.number)) (omega (arith, l)) in
-        absurd (omega (arith, h, few, ap length (decimal_ends c.number), length-append (leading (c.number / 10)) ((0x30 + c.number % 10) ∷ [])))

@@ -8,9 +8,7 @@ use lib.Seq.{length-take-le, take-append-le, take-append-add, drop-append-add, d
 use Rattle.rules.specs.Bench.{decimal, hex4}
 use Rattle.lists.specs.Written.{written, Writes}
 use Rattle.lines.specs.Decimal.{leading, decimal_ends, decimal_length}
-use Rattle.lines.specs.declared.line.Line.{Line}
 use Rattle.lines.specs.Parts.{rest, Begins}
-use Rattle.lines.specs.Joins.{Joins, Begun}
 
 module _ (l : List ℕ) (i : ℕ) (b : List ℕ) (h : i + length b ≤ length l) where
   -- What is written stands there, and what stands behind it stays.
@@ -57,9 +55,6 @@ goes_on_lem {l} {m} {n} {i} {j} {k} {a} {b} s w h =
       buffer = w.buffer ∙ rw (s.front, d) (simp append_assoc);
       place = w.place ∙ q;
     }
-
-pub goes_on : {a b c : Line} {s t : List ℕ} → Begun a s b → Joins b t c → 8 ≤ length t → Joins a (s ++ t) c
-goes_on p q h = record { same = q.same ∙ p.same; size = q.size ∙ p.size; written = goes_on_lem p.begins q.written h }
 
 -- So many bytes stand behind the number, before the line's end.
 pub rest_length : (answer value : ℕ) → answer < 256 → (7 ≤ length (rest answer value)) × (length (rest answer value) ≤ 9)

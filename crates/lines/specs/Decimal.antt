@@ -13,11 +13,11 @@ abbrev pub digits4 : ℕ → List ℕ
 digits4 x = digits2 (x / 100) ++ digits2 (x % 100)
 
 -- One digit, and a last digit behind the others.
-pub in_small : (n x : ℕ) → x < 10 → decimal_in (suc n) x ≡ (0x30 + x) ∷ []
+in_small : (n x : ℕ) → x < 10 → decimal_in (suc n) x ≡ (0x30 + x) ∷ []
 unfolding decimal_in
 in_small n x h = rw (lt-ltb x 10 h, decimal_in)
 
-pub in_large : (n x : ℕ) → 10 ≤ x → decimal_in (suc n) x ≡ decimal_in n (x / 10) ++ ((0x30 + x % 10) ∷ [])
+in_large : (n x : ℕ) → 10 ≤ x → decimal_in (suc n) x ≡ decimal_in n (x / 10) ++ ((0x30 + x % 10) ∷ [])
 unfolding decimal_in
 in_large n x h = rw (le-ltb x 10 h, decimal_in)
 

@@ -3,5 +3,4 @@ pub mod Decimal
 pub mod Word
 pub mod Counting
 pub mod Parts
-pub mod Joins
 pub mod Once

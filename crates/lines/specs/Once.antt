@@ -1,4 +1,4 @@
--- Each function that the crate exports has one result: two that meet its promise are equal. (The methods of `Counter` promise the result itself, for a counter is its number.)
+-- Each function that the crate exports has one result: two that meet its promise are equal. (`counter_of` and `next` promise the result itself, by `counter_of`.)
 use Rattle.std.specs.Prelude.{◌≡◌, List, ℕ}
 use Rattle.std.proofs.Common.{sym, ◌∙◌}
 use Rattle.lists.specs.Written.{Writes}

@@ -5,6 +5,6 @@ mod count; // count.rt: a record number, and its digits
 mod line; // line.rt: the bench's line
 mod watched; // watched.rt: the line of `watch`
 
-pub use count::Counter;
+pub use count::{Counter, counter_of, next};
 pub use line::line_at;
 pub use watched::watched_at;
