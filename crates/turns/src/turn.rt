@@ -1,5 +1,5 @@
 // A record, by what it asks for.
-ghost use Rattle.std.specs.Prelude.{◌≡◌, [], ◌≤◌, length, take};
+ghost use Rattle.std.specs.Prelude.{◌≡◌, [], ◌≤◌, ltb, length, take};
 ghost use Rattle.rules.specs.Bench as rules;
 ghost use Rattle.rules.specs.Step as steps;
 ghost use Rattle.judging.specs.Frames.{frame_of};
@@ -72,6 +72,13 @@ pub fn answer<L: Chip>(
     }
 }
 
+// Are they fewer than a record has?
+fn is_cut(bytes: &[u8]) -> bool
+    ensures { result ≡ ltb (length bytes.now) 8 }
+{
+    bytes.len() < 8
+}
+
 // The same of a record that may be cut short, by the input's end: fewer bytes are refused with 17.
 pub fn answer_cut<L: Chip>(
     words: &mut [u16],
@@ -86,7 +93,7 @@ pub fn answer_cut<L: Chip>(
     requires { HeldOf L.layout words.old sets.old queues.old memory.old wire.old have.old × (length bytes.now ≤ 8) }
     ensures { TurnsOf L.layout (rules.answer (asked bytes.now) (holding (view_of L.layout words.old sets.old queues.old memory.old) (take have.old wire.old) out.old)) result words.new sets.new queues.new memory.new wire.new have.new out.new }
 {
-    if bytes.len() < 8 {
+    if is_cut(bytes) {
         return Err(Refusal::CutShort);
     }
     answer::<L>(words, sets, queues, memory, wire, have, out, bytes)
