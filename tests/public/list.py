@@ -1,12 +1,12 @@
 #!/usr/bin/env python3
-"""Lists each function that a crate exports: who uses it, what it promises, and what leaves one result; and quotes the demands.
+"""Lists each function that a crate exports, those of its traits, methods and conversions too: who uses it, what it promises, and what leaves one result; and quotes the demands.
 
     list.py                          prints the table
     list.py --check FILE             fails unless FILE has this table, and the records of demands/specs/Demands as they stand, each between its two marks
     list.py --write FILE             writes them there
 
 promises.txt, beside this file, has for each promise that is not an equation the theorem that two results which meet it are equal, or a reason in
-words, and one for each function whose result is left open. It fails where a function is used by no other crate or has no contract (unless promises.txt has a line for it), where a type or a constant is
+words, and one for each function whose result is left open. It fails where a function is used by no other crate or has no contract (unless promises.txt has a line for it), where a type, a trait or a constant is
 used by none, where a promise has no line, where a theorem is not there, where a result or what a `&mut` argument leaves is in no promise, and where a
 promise has a premise of which `requires` names no instance. That a theorem speaks of its promise is left to reading.
 """
@@ -24,6 +24,8 @@ OPEN, CLOSE = "([{«", ")]}»"
 RESULT, LEFT = "result", r"\w+\.new"
 # types that have something in them: a promise "of every" such thing asks for no instance
 DATA = {"ℕ", "List", "Lanes", "Register", "Layout"}
+# what else than functions a crate exports
+KINDS = "struct|enum|const|type|trait"
 
 failures = []
 
@@ -87,7 +89,7 @@ class Function:
         closed = closing(text, opened)
         self.arguments = " ".join(text[opened + 1 : closed].split())
         rest = text[closed + 1 :]
-        head = re.match(r"\s*(?:->\s*([^{]+?))?\s*(?:\bwhere\b[^{]*?)?(?=\b(?:requires|ensures)\b|\{)", rest)
+        head = re.match(r"\s*(?:->\s*([^{]+?))?\s*(?:\bwhere\b[^{]*?)?(?=\b(?:requires|ensures)\b|[{;])", rest)
         self.result = head[1]
         contract = rest[head.end() :]
         self.requires, self.ensures = [], []
@@ -102,7 +104,7 @@ class Function:
 
     def lent(self):
         """The arguments that are lent to be changed."""
-        return re.findall(r"(\w+): &mut ", self.arguments)
+        return [name or "self" for name in re.findall(r"(\w+): &mut |&mut self\b", self.arguments)]
 
 
 def find_function(crate, path, text, name):
@@ -110,16 +112,61 @@ def find_function(crate, path, text, name):
     return Function(crate, path, text, at.start()) if at else None
 
 
+def uses_of_own(files):
+    """What a crate exports from its own modules (and not from a crate below it), each with its module."""
+    return [(module, name) for module, name in re.findall(r"^pub use (\w+)::(\w+);", files["lib"], re.M) if module in files]
+
+
+def of_traits(crate, files):
+    """The functions of the traits that a crate exports: what is promised of each layout, each queue, each stream."""
+    found = []
+    for name in exported_names(files):
+        for text in files.values():
+            if not (at := re.search(rf"^pub trait {name.split('::')[-1]}\b[^{{]*", text, re.M)):
+                continue
+            inside = text[at.end() + 1 : closing(text, at.end())]
+            for method in re.finditer(r"^    fn (\w+)", inside, re.M):
+                found.append(Function(crate, f"{name}::{method[1]}", inside, method.start()))
+    return found
+
+
+def of_methods(crate, files):
+    """The methods of the types that a crate exports, and their functions."""
+    found = []
+    for text in files.values():
+        for at in re.finditer(r"^impl (\w+)(?:<[^<>]*>)? \{", text, re.M):
+            if at[1] in exported_names(files):
+                inside = text[at.end() : closing(text, at.end() - 1)]
+                found += [Function(crate, f"{at[1]}::{m[1]}", inside, m.start(1) - 7) for m in re.finditer(r"^    pub fn (\w+)", inside, re.M)]
+    return found
+
+
+def of_conversions(crate, files):
+    """The conversions `From` into a type that a crate exports: what they promise stands in `from_gives`, over the argument and the result."""
+    found = []
+    for text in files.values():
+        for at in re.finditer(r"^impl From<\w+> for (\w+) \{", text, re.M):
+            inside = text[at.end() : closing(text, at.end() - 1)]
+            gives = re.search(r"ghost from_gives = \{ λ (\w+) (\w+)\. (.*) \};", inside)
+            if at[1] not in exported_names(files) or not gives:
+                continue
+            f = Function(crate, f"{at[1]}::from", inside, inside.index("fn from"))
+            said = re.sub(rf"\b{gives[2]}\.", "result.", gives[3])
+            f.ensures = [re.sub(rf"(?<![\w.]){gives[1]}(?![\w.])", f.arguments.split(":")[0], said)]
+            found.append(f)
+    return found
+
+
 def exported(crate, files):
     if "lib" not in files:
         return []
-    found = []
+    found = of_traits(crate, files) + of_methods(crate, files) + of_conversions(crate, files)
     for line in re.findall(r"^pub (?:use|mod) .*$", files["lib"], re.M):
         if not re.fullmatch(r"pub (?:use \w+::\w+|mod \w+);", line.strip()):
             fail(f"{crate}: not understood: {line}")
     for name in re.findall(r"^pub fn (\w+)", files["lib"], re.M):
         found.append(find_function(crate, name, files["lib"], name))
-    for module, name in re.findall(r"^pub use (\w+)::(\w+);", files["lib"], re.M):
+    for module, name in uses_of_own(files):
         found.append(find_function(crate, name, files[module], name))
     for module in re.findall(r"^pub mod (\w+);", files["lib"], re.M):
         for name in re.findall(r"^pub fn (\w+)", files[module], re.M):
@@ -128,19 +175,20 @@ def exported(crate, files):
 
 
 def exported_names(files):
-    """The types and constants that a crate exports."""
-    names = re.findall(r"^pub (?:struct|enum|const) (\w+)", files["lib"], re.M)
-    for module, name in re.findall(r"^pub use (\w+)::(\w+);", files["lib"], re.M):
-        if re.search(rf"^pub (?:struct|enum|const) {name}\b", files[module], re.M):
+    """The types, traits and constants that a crate exports."""
+    names = re.findall(rf"^pub (?:{KINDS}) (\w+)", files["lib"], re.M)
+    for module, name in uses_of_own(files):
+        if re.search(rf"^pub (?:{KINDS}) {name}\b", files[module], re.M):
             names.append(name)
     for module in re.findall(r"^pub mod (\w+);", files["lib"], re.M):
-        names += [f"{module}::{name}" for name in re.findall(r"^pub (?:struct|enum|const) (\w+)", files[module], re.M)]
+        names += [f"{module}::{name}" for name in re.findall(rf"^pub (?:{KINDS}) (\w+)", files[module], re.M)]
     return names
 
 
 def check_names(crate, functions, sources):
-    """Each type and constant that is exported is named by another crate, or by the head of an exported function."""
+    """Each type, trait and constant that is exported is named by another crate, by the head of an exported function, or as the type that a trait's implementation has."""
     heads = " ".join(f"{f.arguments} {f.result}" for f in functions)
+    heads += " " + " ".join(name for text in sources[crate].values() for name in re.findall(r"^    type \w+ = (\w+);", text, re.M))
     for name in exported_names(sources[crate]):
         named = rf"\b{name}\b" if "::" in name else rf"\b{crate}::{name}\b"
         others = (text for d, files in sources.items() if d != crate for text in files.values())
@@ -149,10 +197,13 @@ def check_names(crate, functions, sources):
 
 
 def uses(text, f):
-    if re.search(rf"\b{f.crate}::{f.path}(?:\(|;)", text):
+    if re.search(rf"\b{f.crate}::{f.path}(?:(?:::<[^<>()]*>)?\(|;)", text):
         return True
     if "::" in f.path:
-        module = f.path.split("::")[0]
+        module, name = f.path.rsplit("::", 1)
+        if module[0].isupper():
+            called = rf"\b(?:[A-Z]|Self|{module})::{name}\(|\bimpl (?:\w+::)?{module} for "
+            return bool(re.search(called, text) or re.search(rf"\b{f.crate}::", text) and re.search(rf"\.{name}\(", text))
         return bool(re.search(rf"\buse {f.crate}::{module};", text) and re.search(rf"(?<!:)\b{f.path}\(", text))
     return False
 
@@ -227,9 +278,9 @@ class Fact:
         elif len(split_top(text, "<")) == 2 or len(split_top(text, "≤")) == 2:
             self.kind = "bound"
 
-    def shown(self):
+    def shown(self, open=False):
         what = "equation" if self.kind == "equation" else f"`{self.head}`"
-        return what + "".join(f" (of every `{head_of(p)}`; one is required)" for p in self.premises)
+        return what if open else what + "".join(f" (of every `{head_of(p)}`; one is required)" for p in self.premises)
 
 
 def facts_of(text, premises=()):
@@ -309,7 +360,7 @@ def row(f, users, fields, fixed, plain, unused, seen):
             fail(f"{f.name}: exported, and used by no other crate")
     seen.add(f.name)
     if f.name in plain:
-        said = "; ".join(dict.fromkeys("a bound" if x.kind == "bound" else x.shown() for x in facts))
+        said = "; ".join(dict.fromkeys("a bound" if x.kind == "bound" else x.shown(open=True) for x in facts))
         return f"| `{f.name}` | {who} | {said or 'none'} | open: {plain[f.name]} |"
     if not f.ensures:
         fail(f"{f.name}: no contract says what it does")

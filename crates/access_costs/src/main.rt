@@ -3,10 +3,11 @@
 // does nothing. The records are answered 100 times over, and the sum of the answers' values is printed.
 #![tactic(auto)]
 
-ghost use Rattle.std.specs.Prelude.{◌≡◌, ◌/◌, ◌<◌, length};
 ghost use Rattle.state.specs.Entry.{InOrder};
 
-use state::{Answer, Part, Width};
+use pages::Paged;
+use state::{Answer, Pages, Part, Queues, Registers, Returned, Shown, Width};
+use std::array;
 
 const ROUNDS: u64 = 100;
 
@@ -17,15 +18,13 @@ struct Record {
     value: u16,
 }
 
-// Record k of the input, from 0 on.
-fn record_at(input: &[u8], k: usize) -> Record
-    requires { k < length input.now / 8 }
-{
-    let at = 8 * k;
-    Record {
-        kind: input[at],
-        offset: input[at + 1],
-        value: bits::word(input[at + 2], input[at + 3]),
+impl From<&[u8; 8]> for Record {
+    fn from(bytes: &[u8; 8]) -> Record {
+        Record {
+            kind: bytes[0],
+            offset: bytes[1],
+            value: u16::from_le_bytes([bytes[2], bytes[3]]),
+        }
     }
 }
 
@@ -38,119 +37,92 @@ fn width_of(kind: u8) -> Width {
     }
 }
 
-// With the values added up no answer can be left out.
-fn add(sum: &mut u64, answer: Answer) {
-    let shown = state::printed(answer);
-    *sum = std::num::wrapping_add_u64(*sum, shown.1 as u64);
+// The state that the steps are lent, of the LAN91C96.
+#[derive(Drop)]
+struct Lent {
+    words: [u16; 32],
+    sets: [u32; 24],
+    queues: [u8; 72],
+    memory: [u8; 6144],
 }
 
-// What one record does.
-fn answer_one(
-    words: &mut [u16],
-    sets: &mut [u32],
-    queues: &mut [u8],
-    memory: &mut [u8],
-    frame: &[u8],
-    record: Record,
-) -> Answer
-    requires { InOrder words.old sets.old queues.old memory.old × (length sets.old ≡ 24) }
-    ensures { InOrder words.new sets.new queues.new memory.new × (length sets.new ≡ 24) }
-{
-    let kind = record.kind;
-    match kind {
-        1 | 2 => chip::read(words, sets, queues, memory, width_of(kind), record.offset),
-        3 | 4 => chip::write(
+impl Lent {
+    fn powered_up() -> Lent
+        ensures { InOrder result.words result.sets result.queues result.memory }
+    {
+        let Returned {
+            registers: Registers { words },
+            pages: Pages { sets },
+            queues: Queues { slots: queues },
+            ..
+        } = chip::power_up(Part::Lan91c96);
+        Lent {
+            words,
+            sets,
+            queues,
+            memory: [0; 6144],
+        }
+    }
+
+    // What one record does.
+    fn answer(&mut self, record: Record, frame: &[u8]) -> Answer
+        requires { InOrder self.old.words self.old.sets self.old.queues self.old.memory }
+        ensures { InOrder self.new.words self.new.sets self.new.queues self.new.memory }
+    {
+        let Lent {
             words,
             sets,
             queues,
             memory,
-            width_of(kind),
-            record.offset,
-            record.value,
-        ),
-        6 => chip::arrived(words, sets, queues, memory, frame, false),
-        _ => Answer::Done(0),
+        } = self;
+        match record.kind {
+            1 | 2 => chip::read::<Paged>(
+                words,
+                sets,
+                queues,
+                memory,
+                width_of(record.kind),
+                record.offset,
+            ),
+            3 | 4 => chip::write::<Paged>(
+                words,
+                sets,
+                queues,
+                memory,
+                width_of(record.kind),
+                record.offset,
+                record.value,
+            ),
+            6 => chip::arrived::<Paged>(words, sets, queues, memory, frame, false),
+            _ => Ok(0),
+        }
     }
 }
 
-// Each complete record of the input, once.
-fn answer_all(
-    words: &mut [u16],
-    sets: &mut [u32],
-    queues: &mut [u8],
-    memory: &mut [u8],
-    frame: &[u8],
-    input: &[u8],
-    sum: &mut u64,
-)
-    requires { InOrder words.old sets.old queues.old memory.old × (length sets.old ≡ 24) }
-    ensures { InOrder words.new sets.new queues.new memory.new × (length sets.new ≡ 24) }
-{
-    for k in 0..input.len() / 8 {
-        let record = record_at(input, k);
-        add(sum, answer_one(words, sets, queues, memory, frame, record));
-    }
+// A frame that counts up from 0, so its first byte is even, and it is to no group; with its FCS, which zlib gives for the 1,514 bytes before it.
+fn frame() -> [u8; 1518] {
+    let mut frame = array::from_fn(|i| (i % 256) as u8);
+    frame[1514..].copy_from_slice(&[0x05, 0x07, 0x87, 0xe7]);
+    frame
 }
 
-// All rounds; returns the sum.
-fn answer_rounds(
-    words: &mut [u16],
-    sets: &mut [u32],
-    queues: &mut [u8],
-    memory: &mut [u8],
-    frame: &[u8],
-    input: &[u8],
-) -> u64
-    requires { InOrder words.old sets.old queues.old memory.old × (length sets.old ≡ 24) }
-{
-    let mut sum = 0;
-    let mut left = ROUNDS;
-    while left > 0 {
-        answer_all(words, sets, queues, memory, frame, input, &mut sum);
-        left -= 1;
+// The complete records of the input, in all rounds from power-up on. With the answers' values added up none can be left out.
+fn run(input: &[u8]) -> u64 {
+    let (records, _) = input.as_chunks::<8>();
+    let frame = frame();
+    let mut lent = Lent::powered_up();
+    let mut sum: u64 = 0;
+    for _ in 0..ROUNDS {
+        for record in records {
+            let shown = Shown::from(lent.answer(Record::from(record), &frame));
+            sum = sum.wrapping_add(shown.1 as u64);
+        }
     }
     sum
-}
-
-// A frame that counts up from 0: its first byte is even, so it is to no group.
-fn fill(frame: &mut [u8]) {
-    let mut i = 0;
-    while i < frame.len() {
-        frame[i] = (i % 256) as u8;
-        i += 1;
-    }
-}
-
-// The rounds from power-up on.
-fn run(input: &[u8]) -> u64 {
-    let start = chip::power_up(Part::Lan91c96);
-    let registers = start.registers;
-    let pages = start.pages;
-    let fifos = start.queues;
-    let mut words = registers.words;
-    let mut sets = pages.sets;
-    let mut queues = fifos.slots;
-    let mut memory = [0; 6144];
-    let mut frame = [0; 1518];
-    fill(&mut frame);
-    // its FCS, which zlib gives for the 1,514 bytes before it
-    frame[1514] = 0x05;
-    frame[1515] = 0x07;
-    frame[1516] = 0x87;
-    frame[1517] = 0xe7;
-    answer_rounds(
-        &mut words,
-        &mut sets,
-        &mut queues,
-        &mut memory,
-        &frame,
-        input,
-    )
 }
 
 fn main(rt: HostRuntime) {
     let mut input = [0; 4096];
     let n = streams::read_full(&rt, &mut input);
-    let sum = run(&input[..n]);
-    let _ = println!(rt; "{sum}");
+    let _ = println!(rt; "{}", run(&input[..n]));
 }

@@ -1,5 +1,5 @@
 -- From the register at a place to the rules' access.
-use Rattle.std.specs.Prelude.{◌≡◌, refl, Bool, true, false, cond, List, ℕ, ◌+◌, ◌*◌, ◌/◌, ◌%◌, ◌<◌, ltb}
+use Rattle.std.specs.Prelude.{◌≡◌, refl, Bool, true, false, cond, List, ℕ, ◌+◌, ◌*◌, ◌/◌, ◌%◌, ◌<◌, ltb, Err}
 use Rattle.std.proofs.Common.{sym, subst, ◌∙◌, arith, ltb-false}
 use Rattle.rules.specs.Bits.{bit, low_byte}
 use Rattle.rules.specs.Chip.{Layout, Chip}
@@ -12,10 +12,11 @@ use Rattle.lists.specs.Facts.{or_left}
 use Rattle.data.specs.Access as moved
 use Rattle.state.specs.declared.Width.TheVariants as width
 use Rattle.state.specs.declared.Width as code
-use Rattle.state.specs.declared.Answer.{Answer}
-use Rattle.state.specs.declared.Answer.TheVariants.{Misplaced}
+use Rattle.state.specs.Meaning.{Answer}
+use Rattle.state.specs.declared.Refusal.TheVariants.{Misplaced}
 use Rattle.state.specs.Meaning.{width_of, is_high}
 use Rattle.state.specs.View.{word, view_of, Kept}
+pub use Rattle.data.specs.Behind.{makes_as}
 use Rattle.state.specs.Promise.{SoundOf, MakesOf}
 use Rattle.state.specs.Laws.{register_in, decoded}
 use Rattle.state.specs.Writes.{low_only_lem}
@@ -29,10 +30,6 @@ within : (width : Width) (offset : ℕ) → misplaced width offset ≡ false →
 unfolding misplaced
 within rules.byte offset e = omega (arith, ltb-false 15 offset e)
 within rules.word offset e = omega (arith, ltb-false 15 offset (or_left (ltb 15 offset) (bit 0 offset) e))
-
--- What makes an effect makes it said otherwise.
-pub makes_as : {l : Layout} {e f : Effect} {a : Answer} {w s q mem : List ℕ} → e ≡ f → MakesOf l f a w s q mem → MakesOf l e a w s q mem
-makes_as {l} {a = a} {w = w} {s = s} {q = q} {mem = mem} x = subst (λ (k : Effect). MakesOf l k a w s q mem) (sym x)
 
 pub answered : {l : Layout} {e : Effect} {a b : Answer} {w s q mem : List ℕ} → a ≡ b → MakesOf l e b w s q mem → MakesOf l e a w s q mem
 answered {l} {e} {w = w} {s = s} {q = q} {mem = mem} x = subst (λ (k : Answer). MakesOf l e k w s q mem) (sym x)
@@ -59,11 +56,11 @@ module _ {l : Layout} (width : Width) (offset : ℕ) (w s q mem : List ℕ) (k :
   write_there v e = makes_as (rw (e, here width offset w k e) refl)
 
 -- Refusal 1.
-pub read_nowhere : (width : Width) (offset : ℕ) {l : Layout} {w s q mem : List ℕ} → SoundOf l w s q → misplaced width offset ≡ true → MakesOf l (access (rules.read width offset) (view_of l w s q mem)) Misplaced w s q mem
+pub read_nowhere : (width : Width) (offset : ℕ) {l : Layout} {w s q mem : List ℕ} → SoundOf l w s q → misplaced width offset ≡ true → MakesOf l (access (rules.read width offset) (view_of l w s q mem)) (Err Misplaced) w s q mem
 unfolding access
 read_nowhere width offset o e = makes_as (rw e refl) (record { chip = refl; reply = refl; sound = o })
 
-pub write_nowhere : (width : Width) (offset v : ℕ) {l : Layout} {w s q mem : List ℕ} → SoundOf l w s q → misplaced width offset ≡ true → MakesOf l (access (rules.write width offset v) (view_of l w s q mem)) Misplaced w s q mem
+pub write_nowhere : (width : Width) (offset v : ℕ) {l : Layout} {w s q mem : List ℕ} → SoundOf l w s q → misplaced width offset ≡ true → MakesOf l (access (rules.write width offset v) (view_of l w s q mem)) (Err Misplaced) w s q mem
 unfolding access
 write_nowhere width offset v o e = makes_as (rw e refl) (record { chip = refl; reply = refl; sound = o })
 

@@ -1,24 +1,24 @@
 // Reads.
 ghost use Rattle.std.specs.Prelude.{◌≡◌, List, ℕ, ◌*◌, ◌/◌, length};
-ghost use Rattle.rules.specs.Chip.{Layout};
+ghost use Rattle.rules.specs.Chip.{Layout, page_numbers};
 ghost use Rattle.rules.specs.Registers as rules;
-ghost use Rattle.state.specs.declared.Answer.TheVariants as Answer;
 ghost use Rattle.state.specs.Meaning.{width_of, Placed};
-ghost use Rattle.state.specs.View.{figures, view, view_of, Kept};
-ghost use Rattle.state.specs.Promise.{QueuesIn, PagesIn, Ready, MakesOf, Makes};
+ghost use Rattle.state.specs.View.{figures, view_of, Kept};
+ghost use Rattle.state.specs.Promise.{QueuesIn, PagesIn, ReadyOf, MakesOf};
 ghost use Rattle.accesses.specs.Reach.{place_of};
 
 use crate::{DATA, DATA_1, is_wide, place};
+use data::Data;
 use state::{
     Answer, BANK, COMMAND, CONTROL, ECR, EPHSR, HEADS, INTERRUPT, MIR, PACKET, POINTER, RCR,
-    RESERVED, STATION, STATION_1, STATION_2, TABLE, TABLE_1, TABLE_2, TABLE_3, TCR, Width,
+    RESERVED, Refusal, STATION, STATION_1, STATION_2, TABLE, TABLE_1, TABLE_2, TABLE_3, TCR, Width,
 };
 
 // Done, with what the access takes of the word.
 fn gives(width: Width, offset: u8, word: u16) -> Answer
-    ensures { result ≡ Answer.Done (rules.taken (rules.lanes_at (width_of width) offset) word) }
+    ensures { result ≡ Ok (rules.taken (rules.lanes_at (width_of width) offset) word) }
 {
-    Answer::Done(state::taken(width, offset, word))
+    Ok(state::taken(width, offset, word))
 }
 
 // A read of ECR, the one register that a read clears.
@@ -44,8 +44,8 @@ pub fn read_register(words: &[u16], queues: &[u8], at: usize, width: Width, offs
         // the bank, at offset E of every bank
         7 | 15 | 23 | 31 | 39 | 47 | 55 | 63 => gives(width, offset, words[BANK]),
         // not modelled: bank 0, C; bank 1, 0, 2 and A; bank 3, 8, A and C; bank 4
-        6 | 8 | 13 | 28 | 30 | 32 | 34 | 36 | 38 => return Answer::NotModelled,
-        9 | 29 | 33 | 35 | 37 => return Answer::NotModelled,
+        6 | 8 | 13 | 28 | 30 | 32 | 34 | 36 | 38 => return Err(Refusal::NotModelled),
+        9 | 29 | 33 | 35 | 37 => return Err(Refusal::NotModelled),
         TCR | RCR | STATION | STATION_2 | CONTROL | COMMAND | POINTER | TABLE | TABLE_2 => {
             gives(width, offset, words[at])
         }
@@ -57,7 +57,7 @@ pub fn read_register(words: &[u16], queues: &[u8], at: usize, width: Width, offs
 
 // A read: of data, of ECR, or of another register. Each of data's places has an arm of its own, for the compiler alone: this table and that of `read_register` are one to it then.
 // So is an answer first put by and then returned: returned straight from the call, its number and its value are packed into one number and taken apart again, by up to 17 instructions.
-pub fn read(
+pub fn read<L: Data>(
     words: &mut [u16],
     sets: &[u32],
     queues: &[u8],
@@ -65,11 +65,11 @@ pub fn read(
     width: Width,
     offset: u8,
 ) -> Answer
-    requires { Ready words.old sets.now queues.now × (length memory.now ≡ 256 * length sets.now) }
-    ensures { Makes (rules.access (rules.read (width_of width) offset) (view words.old sets.now queues.now memory.now)) result words.new sets.now queues.now memory.now }
+    requires { ReadyOf L.layout words.old sets.now queues.now × (length memory.now ≡ 256 * page_numbers L.layout (length sets.now)) }
+    ensures { MakesOf L.layout (rules.access (rules.read (width_of width) offset) (view_of L.layout words.old sets.now queues.now memory.now)) result words.new sets.now queues.now memory.now }
 {
     if state::misplaced(width, offset) {
-        return Answer::Misplaced;
+        return Err(Refusal::Misplaced);
     }
     let at = place(words, offset);
     match at {
@@ -84,6 +84,6 @@ pub fn read(
             return answer;
         }
     }
-    let answer = data::read_data(words, sets, queues, memory, is_wide(width));
+    let answer = L::read_data(words, sets, queues, memory, is_wide(width));
     answer
 }

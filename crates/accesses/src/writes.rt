@@ -1,20 +1,22 @@
 // Writes.
 ghost use Rattle.std.specs.Prelude.{◌≡◌, List, ℕ, ◌*◌, ◌/◌, length};
-ghost use Rattle.rules.specs.Chip.{Layout};
+ghost use Rattle.rules.specs.Chip.{Layout, page_numbers};
 ghost use Rattle.rules.specs.Registers as rules;
 ghost use Rattle.state.specs.Meaning.{width_of, Placed};
-ghost use Rattle.state.specs.View.{figures, view, view_of, Kept};
-ghost use Rattle.state.specs.Promise.{QueuesIn, PagesIn, Ready, MakesOf, Makes};
+ghost use Rattle.state.specs.View.{figures, view_of, Kept};
+ghost use Rattle.state.specs.Promise.{QueuesIn, PagesIn, ReadyOf, MakesOf};
 ghost use Rattle.accesses.specs.Reach.{place_of};
 
 use crate::{DATA, DATA_1, is_wide, place};
+use data::Data;
+use pages::Layout;
 use state::{
     Answer, COMMAND, CONTROL, ECR, EPHSR, HEADS, INTERRUPT, MIR, PACKET, POINTER, RCR, RESERVED,
-    STATION, STATION_1, STATION_2, TABLE, TABLE_1, TABLE_2, TABLE_3, TCR, Width,
+    Refusal, STATION, STATION_1, STATION_2, TABLE, TABLE_1, TABLE_2, TABLE_3, TCR, Width,
 };
 
 // The low byte is the command; the high byte is read-only.
-fn write_command(
+fn write_command<L: Layout>(
     words: &mut [u16],
     sets: &mut [u32],
     queues: &mut [u8],
@@ -22,13 +24,13 @@ fn write_command(
     offset: u8,
     value: u16,
 ) -> Answer
-    requires { Ready words.old sets.old queues.old × Placed width offset }
-    ensures { (mem : List ℕ) → Makes (rules.write_register rules.COMMAND (rules.lanes_at (width_of width) offset) value (view words.old sets.old queues.old mem)) result words.new sets.new queues.new mem }
+    requires { ReadyOf L.layout words.old sets.old queues.old × Placed width offset }
+    ensures { (mem : List ℕ) → MakesOf L.layout (rules.write_register rules.COMMAND (rules.lanes_at (width_of width) offset) value (view_of L.layout words.old sets.old queues.old mem)) result words.new sets.new queues.new mem }
 {
     if state::is_high(width, offset) {
-        return Answer::ReadOnly;
+        return Err(Refusal::ReadOnly);
     }
-    commands::commanded(words, sets, queues, bits::low_byte(value))
+    commands::commanded::<L>(words, sets, queues, bits::low_byte(value))
 }
 
 // A write to the register at a place that is not data's, RCR's or the command's: it looks at no packet's pages, and changes none. The table is as that of `read_register`.
@@ -53,21 +55,21 @@ pub fn write_register(
         7 | 15 | 23 | 31 | 39 | 47 | 55 | 63 => {
             registers::write_bank(words, width, offset, value)
         }
-        EPHSR | ECR | HEADS => Answer::ReadOnly,
-        MIR => Answer::ReadOnly,
-        6 | 8 | 13 | 28 | 30 | 32 | 34 | 36 | 38 => Answer::NotModelled,
-        9 | 29 | 33 | 35 | 37 => Answer::NotModelled,
+        EPHSR | ECR | HEADS => Err(Refusal::ReadOnly),
+        MIR => Err(Refusal::ReadOnly),
+        6 | 8 | 13 | 28 | 30 | 32 | 34 | 36 | 38 => Err(Refusal::NotModelled),
+        9 | 29 | 33 | 35 | 37 => Err(Refusal::NotModelled),
         STATION | STATION_2 | POINTER | TABLE | TABLE_2 => {
             registers::write_word(words, at, width, offset, value)
         }
         STATION_1 | TABLE_1 | TABLE_3 => { registers::write_word(words, at, width, offset, value) }
         // banks 5 to 7: ignored
-        _ => Answer::Done(0),
+        _ => Ok(0),
     }
 }
 
 // A write: to data, to one of the two registers that may free or grant pages, or to another. Data's places are as in `read`.
-pub fn write(
+pub fn write<L: Data>(
     words: &mut [u16],
     sets: &mut [u32],
     queues: &mut [u8],
@@ -76,19 +78,19 @@ pub fn write(
     offset: u8,
     value: u16,
 ) -> Answer
-    requires { Ready words.old sets.old queues.old × (length memory.old ≡ 256 * length sets.old) }
-    ensures { Makes (rules.access (rules.write (width_of width) offset value) (view words.old sets.old queues.old memory.old)) result words.new sets.new queues.new memory.new }
+    requires { ReadyOf L.layout words.old sets.old queues.old × (length memory.old ≡ 256 * page_numbers L.layout (length sets.old)) }
+    ensures { MakesOf L.layout (rules.access (rules.write (width_of width) offset value) (view_of L.layout words.old sets.old queues.old memory.old)) result words.new sets.new queues.new memory.new }
 {
     if state::misplaced(width, offset) {
-        return Answer::Misplaced;
+        return Err(Refusal::Misplaced);
     }
     let at = place(words, offset);
     match at {
         DATA => {}
         DATA_1 => {}
         RCR => return reset::write_rcr(words, sets, queues, width, offset, value),
-        COMMAND => return write_command(words, sets, queues, width, offset, value),
+        COMMAND => return write_command::<L>(words, sets, queues, width, offset, value),
         _ => return write_register(words, queues, at, width, offset, value),
     }
-    data::write_data(words, sets, queues, memory, is_wide(width), value)
+    L::write_data(words, sets, queues, memory, is_wide(width), value)
 }

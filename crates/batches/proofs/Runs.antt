@@ -1,15 +1,18 @@
 -- Records answered one after another.
-use mathlib.Core.Path.{◌≡◌, refl, ap, ap₂, ◌∙◌}
+use mathlib.Core.Path.{◌≡◌, refl, ap, ap₂, sym, ◌∙◌}
 use mathlib.Core.Bool.{Bool}
 use mathlib.Core.List.{List, ◌++◌}
-use Prim.Native.Nat.{ℕ, suc, ◌+◌, ◌≤◌}
+use Prim.Native.Nat.{ℕ, suc, ◌+◌, ◌*◌, ◌/◌, ◌≤◌, ◌<◌}
 use native.Mathlib.Omega.{arith}
-use lib.ListN.{length, take}
+use lib.ListN.{length, take, drop, length-drop}
+use Rattle.std.proofs.Common.{drop-drop}
+use Rattle.std.proofs.Math.Seq.{take-append_seam, drop-append_seam}
+use Rattle.std.proofs.lemmas.List.{length-append}
 use Rattle.rules.specs.Chip.{Layout, paged}
 use Rattle.rules.specs.Interrupts.{line_up}
 use Rattle.rules.specs.Bench.{Bench, Answered, Form, answer, event_of}
 use Rattle.rules.specs.Watch.{is_send}
-use Rattle.state.specs.declared.Answer.{Answer}
+use Rattle.state.specs.Meaning.{Answer}
 use Rattle.state.specs.Meaning.{reply_of}
 use Rattle.state.specs.View.{view, view_of, figures}
 use Rattle.state.specs.Promise.{QueuesIn}
@@ -18,6 +21,23 @@ use Rattle.lines.specs.Parts.{taken}
 use Rattle.turns.specs.Turns.{Held, Turns}
 use Rattle.batches.specs.Batch as batch
 use Rattle.batches.specs.Batch.{form_of, Prints, record_at, bench_after, lines_for}
+
+-- Eight bytes off the front of what follows the first k records are the next record, and what follows them follows it.
+module _ (k : ℕ) (input bytes rest' : List ℕ) {rest : List ℕ} (r : rest ≡ drop (8 * k) input) (s : rest ≡ bytes ++ rest') (l : length bytes ≡ 8) where
+  pub front_record : bytes ≡ record_at k input
+  front_record = sym (take-append_seam bytes rest') ∙ ap₂ (λ (n : ℕ) (xs : List ℕ). take n xs) l (sym s ∙ r)
+
+  pub behind_record : {n : ℕ} → n ≡ suc k → rest' ≡ drop (8 * n) input
+  behind_record {n} h =
+      let e : 8 * k + 8 ≡ 8 * n = omega (arith, h) in
+      sym (drop-append_seam bytes rest') ∙ ap₂ (λ (m : ℕ) (xs : List ℕ). drop m xs) l (sym s ∙ r) ∙ drop-drop 8 (8 * k) input ∙ ap (λ (i : ℕ). drop i input) e
+
+  pub record_within : k < length input / 8
+  record_within = omega (arith, length-drop (8 * k) input, ap length r, ap length s, length-append bytes rest', l)
+
+-- Where fewer are left there is no other record.
+pub records_end : (k : ℕ) (input : List ℕ) {rest : List ℕ} → rest ≡ drop (8 * k) input → length rest < 8 → k ≤ length input / 8 → length input / 8 ≡ k
+records_end k input r h w = omega (arith, length-drop (8 * k) input, ap length r, h, w)
 
 -- No record is answered yet.
 pub none_yet : {form : Form} {k number : ℕ} (input w s q mem wire : List ℕ) (have : ℕ) (out lines : List ℕ) → number ≡ k → Held w s q mem wire have

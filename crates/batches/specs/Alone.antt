@@ -2,7 +2,7 @@
 use Rattle.std.specs.Prelude.{◌≡◌, Bool, false, List, ℕ, take}
 use Rattle.rules.specs.Bench.{Event}
 use Rattle.rules.specs.Watch.{is_send}
-use Rattle.state.specs.declared.Answer.{Answer}
+use Rattle.state.specs.Meaning.{Answer}
 use Rattle.state.specs.Meaning.{reply_of}
 use Rattle.state.specs.View.{view, figures}
 use Rattle.state.specs.Promise.{QueuesIn}

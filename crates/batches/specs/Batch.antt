@@ -5,7 +5,7 @@ use Rattle.rules.specs.Interrupts.{line_up}
 use Rattle.rules.specs.Bench.{Event, Bench, Form, plain, answer, event_of}
 use Rattle.rules.specs.Watch.{is_send, watched}
 use Rattle.lists.specs.Written.{Writes}
-use Rattle.state.specs.declared.Answer.{Answer}
+use Rattle.state.specs.Meaning.{Answer}
 use Rattle.state.specs.Meaning.{reply_of}
 use Rattle.state.specs.View.{view}
 use Rattle.records.specs.Gathers.{holding}

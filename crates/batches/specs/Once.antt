@@ -6,7 +6,7 @@ use mathlib.Core.List.{List, []}
 use Rattle.rules.specs.Bench as rules
 use Rattle.rules.specs.Bench.{unknown}
 use Rattle.rules.specs.Watch.{is_send}
-use Rattle.state.specs.declared.Answer.{Answer}
+use Rattle.state.specs.Meaning.{Answer}
 use Rattle.state.specs.View.{figures}
 use Rattle.state.specs.Promise.{QueuesIn}
 use Rattle.turns.specs.Once.{same_place, Same, bench_once}

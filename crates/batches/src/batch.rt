@@ -9,7 +9,8 @@ ghost use Rattle.batches.specs.Batch.{form_of, widest, room_for, Prints, Answere
 ghost use Rattle.batches.specs.Alone.{LoneLine, LastLine};
 
 use lines::Counter;
-use state::Answer;
+use pages::Paged;
+use state::{Answer, Refusal, Shown};
 
 // The line of a record, the bench's or that of `watch`; returns the place behind it. The interrupt line is the caller's, so that this stays short enough for the compiler to have it in the loop.
 pub fn print(
@@ -25,7 +26,7 @@ pub fn print(
     requires { Counts counter × (length out.now ≡ 2052) × (at + widest watching + 10 ≤ length lines.old) }
     ensures { Prints watching counter.number answer sent up out.now lines.old at lines.new result × (result ≤ at + widest watching) }
 {
-    let shown = state::printed(answer);
+    let shown = Shown::from(answer);
     if !watching {
         return lines::line_at(lines, at, counter, shown);
     }
@@ -66,7 +67,7 @@ pub fn last_line(
     if kept == 0 {
         return 0;
     }
-    lone_line(watching, words, out, lines, number, Answer::CutShort)
+    lone_line(watching, words, out, lines, number, Err(Refusal::CutShort))
 }
 
 // Each complete record of the input; the lines stand before `end`.
@@ -89,17 +90,14 @@ pub fn answer_all(
     ensures answered { Answered (form_of watching) (length input.now / 8) number.old input.now (holding (view words.old sets.old queues.old memory.old) (take have.old wire.old) out.old) words.new sets.new queues.new memory.new wire.new have.new out.new lines.new end.new number.new }
     ensures fits { end.new ≤ length lines.old }
 {
-    let mut k = 0;
     *end = 0;
     let mut counter = lines::counter_of(*number);
-    while k < input.len() / 8 {
-        let bytes = &input[8 * k..8 * k + 8];
-        let given = turns::answer(words, sets, queues, memory, wire, have, out, bytes);
+    for bytes in input.chunks_exact(8) {
+        let given = turns::answer::<Paged>(words, sets, queues, memory, wire, have, out, bytes);
         let sent = records::is_send(bytes);
         let up = interrupts::line_up(words);
         *end = print(watching, lines, *end, counter, given, sent, up, out);
         counter = lines::next(counter);
-        k += 1;
     }
     *number = counter.number;
 }

@@ -1,12 +1,13 @@
 // The bits and bytes of registers: each contract is an equation with a definition of `rules`.
 // Callers give a constant k, and the compiler inlines these across crates: then a bit is one `test` (or a shift and an `and`),
-// a bit set or cleared one `or` or `and` with a constant, a byte one shift, a word one shift and one `or`. So no masks are written here.
+// a bit set or cleared one `or` or `and` with a constant, a byte one shift, a word one shift and one `or`.
 #![tactic(auto)]
 
 ghost use Rattle.std.specs.Prelude.{◌≡◌, ◌&&◌, ◌||◌, ◌<◌};
 ghost use Rattle.rules.specs.Bits.{bit, set_bit, clear_bit, flag, low_byte, high_byte, word_of};
 
 // Is bit k of a register set?
+#[tactic(auto, unfolding(rules::specs::Bits::bit))]
 pub fn is_set(x: u16, k: u16) -> bool
     requires { k < 16 }
     ensures { result ≡ bit k x }
@@ -14,7 +15,8 @@ pub fn is_set(x: u16, k: u16) -> bool
     (x >> k) % 2 == 1
 }
 
-// Is bit k of a byte set?
+// Is bit k of a byte set? Apart from `is_set`: one function over `T: Into<u64>` would promise `bit k` of what x converts to, and not of x.
+#[tactic(auto, unfolding(rules::specs::Bits::bit))]
 pub fn byte_is_set(x: u8, k: u8) -> bool
     requires { k < 8 }
     ensures { result ≡ bit k x }
@@ -23,6 +25,7 @@ pub fn byte_is_set(x: u8, k: u8) -> bool
 }
 
 // Bit 0 of a length or a count.
+#[tactic(auto, using(crate::specs::Laws::bit_zero))]
 pub fn is_odd(n: usize) -> bool
     ensures { result ≡ bit 0 n }
 {
@@ -30,62 +33,62 @@ pub fn is_odd(n: usize) -> bool
 }
 
 // A register with bit k cleared.
+#[tactic(auto, using(crate::proofs::Masks::cleared))]
 pub fn with_clear(x: u16, k: u16) -> u16
     requires { k < 16 }
     ensures { result ≡ clear_bit k x }
 {
-    x - ((x >> k) % 2 << k)
+    x & !(1 << k)
 }
 
 // A register with bit k set.
+#[tactic(auto, using(crate::proofs::Masks::filled))]
 pub fn with_set(x: u16, k: u16) -> u16
     requires { k < 16 }
     ensures { result ≡ set_bit k x }
 {
-    with_clear(x, k) + (1 << k)
+    x | (1 << k)
 }
 
 // 1 where the test holds, else 0.
+#[tactic(auto, unfolding(rules::specs::Bits::flag))]
 pub fn flag_of(b: bool) -> u16
     ensures { (result ≡ flag b) × (result < 2) }
 {
-    if b { 1 } else { 0 }
+    u16::from(b)
 }
 
 // The two bytes of a word, and the word of two bytes.
+#[tactic(auto, unfolding(rules::specs::Bits::low_byte))]
 pub fn low_byte(x: u16) -> u8
     ensures { result ≡ low_byte x }
 {
-    (x % 256) as u8
+    x.to_le_bytes()[0]
 }
 
+#[tactic(auto, unfolding(rules::specs::Bits::high_byte))]
 pub fn high_byte(x: u16) -> u8
     ensures { result ≡ high_byte x }
 {
-    (x / 256) as u8
+    x.to_le_bytes()[1]
 }
 
+#[tactic(auto, unfolding(rules::specs::Bits::word_of))]
 pub fn word(low: u8, high: u8) -> u16
     ensures { result ≡ word_of low high }
 {
-    low as u16 + high as u16 * 256
+    u16::from_le_bytes([low, high])
 }
 
 // Two tests, both or either: without a branch where they are compiled.
 pub fn both(a: bool, b: bool) -> bool
     ensures { result ≡ a && b }
 {
-    if a {
-        return b;
-    }
-    false
+    a & b
 }
 
 pub fn either(a: bool, b: bool) -> bool
     ensures { result ≡ a || b }
 {
-    if a {
-        return true;
-    }
-    b
+    a | b
 }

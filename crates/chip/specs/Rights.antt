@@ -1,5 +1,5 @@
 -- From what a step makes to what an entry promises: the turn of the rules, on a state that is in order again; and the same of a record with places for 24 packets, of which the step is lent the part's.
-use Rattle.std.specs.Prelude.{◌≡◌, Bool, true, false, not, ℕ, ◌*◌, ◌-◌, ◌^◌, ◌≤◌, ◌<◌, length, get_or, take, drop, replicate}
+use Rattle.std.specs.Prelude.{◌≡◌, Bool, true, false, not, ℕ, ◌*◌, ◌-◌, ◌^◌, ◌≤◌, ◌<◌, length, get_or, take, drop, replicate, Ok, Err}
 use Rattle.std.proofs.Math.Path.{refl}
 use Rattle.std.proofs.Common.{ap, ap₂, sym, subst, ◌∙◌, true≢false, inl, inr, arith, take-append-drop, length-take-le, take_all}
 use mathlib.Core.List.{List, [], ◌++◌, map}
@@ -26,8 +26,8 @@ use Rattle.state.specs.declared.part.Part.{Part}
 use Rattle.state.specs.declared.part.Part.TheVariants as part
 use Rattle.state.specs.Meaning.{packets_of}
 use Rattle.state.specs.Only.{sets_known}
-use Rattle.state.specs.declared.Answer.{Answer}
-use Rattle.state.specs.declared.Answer.TheVariants.{Done, Damaged}
+use Rattle.state.specs.Meaning.{Answer}
+use Rattle.state.specs.declared.Refusal.TheVariants.{Damaged}
 use Rattle.state.specs.View.{view_of}
 use Rattle.state.specs.Promise.{SoundOf, MakesOf}
 use Rattle.chip.specs.declared.driver.Request.{Request}
@@ -115,7 +115,7 @@ module _ {l : Layout} {w s q mem : List ℕ} (h : WholeOf l w s q mem) {n : ℕ}
 
 -- What is returned of a record that is not in order, and of one that is.
 module _ {l : Layout} {w s q mem : List ℕ} where
-  pub damaged : (i : Input) → (WholeOf l w s q mem → ⊥) → AnswersOf l i w s q mem Damaged w s q mem (lent i)
+  pub damaged : (i : Input) → (WholeOf l w s q mem → ⊥) → AnswersOf l i w s q mem (Err Damaged) w s q mem (lent i)
   damaged i n = record { done = λ o. absurd (n o); broken = λ o. record { answer = refl; words = refl; pages = refl; queues = refl; memory = refl; output = refl } }
 
   pub answered : (i : Input) {a : Answer} {w' s' q' mem' out' : List ℕ} → WholeOf l w s q mem → LeavesOf l (step i (record_view l w s q mem)) a w' s' q' mem' out' → AnswersOf l i w s q mem a w' s' q' mem' out'
@@ -150,7 +150,7 @@ pub cleared_zeros : {s : List ℕ} → ((i : ℕ) → get_or s i 0 < 2 ^ 32) →
 cleared_zeros {s} small e = sets_known s (replicate 24 0) small (λ i. let z = zeros_at 24 i in omega (arith, z)) (e ∙ sym (empty_sets 24))
 
 -- What stands for the chip at power-up is in order, with nothing behind the part's places.
-pub starts : {l : Layout} (n : ℕ) {w s q r : List ℕ} → SoundOf l w s q → view_of l w s q (zeros l n) ≡ powered l n → r ≡ s ++ replicate (24 - n) 0 → StartedOf l n (Done 0) w r q
+pub starts : {l : Layout} (n : ℕ) {w s q r : List ℕ} → SoundOf l w s q → view_of l w s q (zeros l n) ≡ powered l n → r ≡ s ++ replicate (24 - n) 0 → StartedOf l n (Ok 0) w r q
 starts {l} n {w} {s} {q} {r} o e f =
     let fits = powered_fits l n in
     let many : length s ≡ n = sym (numbers_length l s) ∙ ap (λ (d : Chip). size d) e ∙ fits.0.count in

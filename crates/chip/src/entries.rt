@@ -1,16 +1,17 @@
 // Power-up, and the interrupt line.
-ghost use Rattle.std.specs.Prelude.{◌≡◌, length};
-ghost use Rattle.rules.specs.Chip.{paged};
-ghost use Rattle.state.specs.declared.Answer.TheVariants.{Done};
+ghost use Rattle.std.specs.Prelude.{◌≡◌, length, Ok};
+ghost use Rattle.rules.specs.Chip.{Layout};
 ghost use Rattle.state.specs.Meaning.{packets_of};
-ghost use Rattle.state.specs.Entry.{StartedOf, Started, Lines};
+ghost use Rattle.state.specs.Entry.{StartedOf};
+ghost use Rattle.chip.specs.Entries.{StartedBy, LinesBy};
 
-use state::{Answer, Pages, Part, Queues, Registers, Returned};
+use crate::Chip;
+use state::{Pages, Part, Queues, Registers, Returned};
 
-// The record of a part at power-up, whatever was in its places; those of no packet are 0.
+// The record of a part at power-up, of either layout, whatever was in its places; those of no packet are 0.
 pub fn powered(words: &mut [u16], sets: &mut [u32], queues: &mut [u8], part: Part)
     requires { (length words.old ≡ 32) × (length sets.old ≡ 24) × (length queues.old ≡ 72) }
-    ensures { StartedOf paged (packets_of part) (Done 0) words.new sets.new queues.new }
+    ensures { (l : Layout) → StartedOf l (packets_of part) (Ok 0) words.new sets.new queues.new }
 {
     let n = state::packets_of(part);
     reset::zeroed(words);
@@ -19,18 +20,18 @@ pub fn powered(words: &mut [u16], sets: &mut [u32], queues: &mut [u8], part: Par
     pool::reset(words, &mut sets[..n], queues);
 }
 
-// Registers, pages and queues of a part at power-up; the memory beside them is 256 zero bytes for each of its pages.
+// Registers, pages and queues of a part at power-up; the memory beside them is zero bytes: 256 for each of its pages, of strips 2,048 for each of its packets.
 pub fn power_up(part: Part) -> Returned
-    ensures { Started (packets_of part) result }
+    ensures { (l : Layout) → StartedBy l (packets_of part) result }
 {
     let mut words = [0; 32];
     let mut sets = [0; 24];
     let mut slots = [0; 72];
     powered(&mut words, &mut sets, &mut slots, part);
+    let answer = Ok(0);
     let registers = Registers { words };
     let pages = Pages { sets };
     let queues = Queues { slots };
-    let answer = Answer::Done(0);
     Returned {
         answer,
         registers,
@@ -40,13 +41,13 @@ pub fn power_up(part: Part) -> Returned
 }
 
 // Is the interrupt line up? That of a record that is not in order is down.
-pub fn line(r: Registers, p: Pages, q: Queues) -> bool
-    ensures { Lines r p q result }
+pub fn line<L: Chip>(r: Registers, p: Pages, q: Queues) -> bool
+    ensures { LinesBy L.layout r p q result }
 {
     let words = r.words;
     let sets = p.sets;
     let slots = q.slots;
-    if !guard::well_formed(&words, &sets, &slots) {
+    if !L::well_formed(&words, &sets, &slots) {
         return false;
     }
     interrupts::line_up(&words)

@@ -1,14 +1,15 @@
 // A send finishes: on a state that is in order, and on any record.
-ghost use Rattle.rules.specs.Chip.{paged};
 ghost use Rattle.rules.specs.Step as rules;
-ghost use Rattle.state.specs.View.{view};
-ghost use Rattle.state.specs.Entry.{InOrder, Right, record_view, Whole, Leaves, Answers};
+ghost use Rattle.state.specs.View.{view_of};
+ghost use Rattle.state.specs.Entry.{InOrderOf, RightOf, record_view, WholeOf, LeavesOf};
+ghost use Rattle.chip.specs.Entries.{AnswersBy};
 
+use crate::Chip;
 use crate::order::in_order;
-use state::{Answer, Pages, Queues, Registers, Returned};
+use state::{Answer, Pages, Queues, Refusal, Registers, Returned};
 
 // The step below the public entry: no check is repeated here.
-pub fn finished(
+pub fn finished<L: Chip>(
     words: &mut [u16],
     sets: &mut [u32],
     queues: &mut [u8],
@@ -18,16 +19,16 @@ pub fn finished(
     collisions: u8,
     deferral: u8,
 ) -> Answer
-    requires { InOrder words.old sets.old queues.old memory.old }
-    ensures { Right (rules.step (rules.sent (record { outcome = outcome; collisions = collisions; deferral = deferral }) out.old) (view words.old sets.old queues.old memory.old)) result words.new sets.new queues.new memory.new out.new }
+    requires { InOrderOf L.layout words.old sets.old queues.old memory.old }
+    ensures { RightOf L.layout (rules.step (rules.sent (record { outcome = outcome; collisions = collisions; deferral = deferral }) out.old) (view_of L.layout words.old sets.old queues.old memory.old)) result words.new sets.new queues.new memory.new out.new }
 {
-    sending::finished(
+    sending::finished::<L>(
         words, sets, queues, memory, out, outcome, collisions, deferral,
     )
 }
 
 // The same on a record in order, with its 24 places: the step is lent those of the part.
-pub fn finished_whole(
+pub fn finished_whole<L: Chip>(
     words: &mut [u16],
     sets: &mut [u32],
     queues: &mut [u8],
@@ -37,11 +38,11 @@ pub fn finished_whole(
     collisions: u8,
     deferral: u8,
 ) -> Answer
-    requires { Whole words.old sets.old queues.old memory.old }
-    ensures { Leaves (rules.step (rules.sent (record { outcome = outcome; collisions = collisions; deferral = deferral }) out.old) (record_view paged words.old sets.old queues.old memory.old)) result words.new sets.new queues.new memory.new out.new }
+    requires { WholeOf L.layout words.old sets.old queues.old memory.old }
+    ensures { LeavesOf L.layout (rules.step (rules.sent (record { outcome = outcome; collisions = collisions; deferral = deferral }) out.old) (record_view L.layout words.old sets.old queues.old memory.old)) result words.new sets.new queues.new memory.new out.new }
 {
     let n = state::size_in(words);
-    finished(
+    finished::<L>(
         words,
         &mut sets[..n],
         queues,
@@ -54,7 +55,7 @@ pub fn finished_whole(
 }
 
 // The packet at the head of TX has been sent; what is put out goes to the front of the output buffer.
-pub fn send(
+pub fn send<L: Chip>(
     r: Registers,
     p: Pages,
     q: Queues,
@@ -64,17 +65,17 @@ pub fn send(
     collisions: u8,
     deferral: u8,
 ) -> Returned
-    ensures { Answers (rules.sent (record { outcome = outcome; collisions = collisions; deferral = deferral }) out.old) r p q memory.old result memory.new out.new }
+    ensures { AnswersBy L.layout (rules.sent (record { outcome = outcome; collisions = collisions; deferral = deferral }) out.old) r p q memory.old result memory.new out.new }
 {
     let mut words = r.words;
     let mut sets = p.sets;
     let mut slots = q.slots;
-    let answer = if in_order(&words, &sets, &slots, memory) {
-        finished_whole(
+    let answer = if in_order::<L>(&words, &sets, &slots, memory) {
+        finished_whole::<L>(
             &mut words, &mut sets, &mut slots, memory, out, outcome, collisions, deferral,
         )
     } else {
-        Answer::Damaged
+        Err(Refusal::Damaged)
     };
     let registers = Registers { words };
     let pages = Pages { sets };

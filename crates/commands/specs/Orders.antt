@@ -3,7 +3,7 @@ use Rattle.std.specs.Prelude.{◌≡◌, refl, List, ℕ}
 use Rattle.std.proofs.Common.{ap, sym, ◌∙◌}
 use Rattle.rules.specs.Chip.{Layout, paged}
 use Rattle.rules.specs.Mmu.{Command, nothing, allocate, reset, remove_rx, remove_and_release, release, enqueue, reset_tx, unknown, perform}
-use Rattle.state.specs.declared.Answer.{Answer}
+use Rattle.state.specs.Meaning.{Answer}
 use Rattle.state.specs.View.{view_of}
 use Rattle.state.specs.Promise.{MakesOf}
 use Rattle.commands.specs.declared.Order.{Order}

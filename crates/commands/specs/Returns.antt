@@ -1,13 +1,13 @@
 -- How answer and state after a command are shown to be what document 01 says of it.
-use Rattle.std.specs.Prelude.{◌≡◌, refl, Bool, true, false, ◌||◌, List, [], ℕ, ◌%◌, length, get_or}
+use Rattle.std.specs.Prelude.{◌≡◌, refl, Bool, true, false, ◌||◌, List, [], ℕ, ◌%◌, length, get_or, Ok, Err}
 use Rattle.std.proofs.Common.{ap, ap₂, sym, ◌∙◌}
 use Rattle.rules.specs.Lists.{member, some?}
 use Rattle.rules.specs.Chip.{Registers, Layout, Pool, Chip, size, empty_pool}
 use Rattle.rules.specs.Answers.{Effect, did}
 use Rattle.rules.specs.Fields.{set_result, set_waiting, in_registers, in_pool}
 use Rattle.rules.specs.Mmu.{Command, reset, perform, if_idle}
-use Rattle.state.specs.declared.Answer.{Answer}
-use Rattle.state.specs.declared.Answer.TheVariants.{Done, NotAllocated, StillQueued}
+use Rattle.state.specs.Meaning.{Answer}
+use Rattle.state.specs.declared.Refusal.TheVariants.{NotAllocated, StillQueued}
 use Rattle.state.specs.Meaning.{reply_of}
 use Rattle.state.specs.View.{word, queue_in, lists_of, view_of}
 use Rattle.state.specs.Pages.{numbers_length}
@@ -19,7 +19,7 @@ use Rattle.commands.specs.Steps.{idle_5, idle_6, idle_done}
 module _ {l : Layout} (k : Command) (w s q mem : List ℕ) where
   -- done: the command is `f` on the chip, and the state after stands for `f` of what it stood for
   pub performs : (f : Chip → Chip) {w' s' q' : List ℕ} → perform k (view_of l w s q mem) ≡ did (f (view_of l w s q mem))
-      → view_of l w' s' q' mem ≡ f (view_of l w s q mem) → SoundOf l w' s' q' → MakesOf l (perform k (view_of l w s q mem)) (Done 0) w' s' q' mem
+      → view_of l w' s' q' mem ≡ f (view_of l w s q mem) → SoundOf l w' s' q' → MakesOf l (perform k (view_of l w s q mem)) (Ok 0) w' s' q' mem
   performs f p e o = rw p (record { chip = e; reply = refl; sound = o })
 
   -- nothing changes: a refusal, and 00h
@@ -35,19 +35,19 @@ module _ (l : Layout) (k : Command) (f : Chip → Effect) (p : (c : Chip) → pe
       → member (word w 17 % 256) (queue_in 0 (word w 6) q) || member (word w 17 % 256) (queue_in 1 (word w 8) q) ≡ t
   waits e u = sym (e ∙ ap (λ (j : ℕ). member j (queue_in 0 (word w 6) q) || member j (queue_in 1 (word w 8) q)) named) ∙ u
 
-  pub refuses_5 : SoundOf l w s q → some? (get_or (lists_of l s) n []) ≡ false → PerformsOf l k w s q NotAllocated w s q
-  refuses_5 o a mem = let c = view_of l w s q mem in unchanged k w s q mem NotAllocated o (p c ∙ idle_5 c (f c) (has a))
+  pub refuses_5 : SoundOf l w s q → some? (get_or (lists_of l s) n []) ≡ false → PerformsOf l k w s q (Err NotAllocated) w s q
+  refuses_5 o a mem = let c = view_of l w s q mem in unchanged k w s q mem (Err NotAllocated) o (p c ∙ idle_5 c (f c) (has a))
 
   pub refuses_6 : SoundOf l w s q → some? (get_or (lists_of l s) n []) ≡ true → {b : Bool} → b ≡ member n (queue_in 0 (word w 6) q) || member n (queue_in 1 (word w 8) q) → b ≡ true
-      → PerformsOf l k w s q StillQueued w s q
-  refuses_6 o a b u mem = let c = view_of l w s q mem in unchanged k w s q mem StillQueued o (p c ∙ idle_6 c (f c) (has a) (waits b u))
+      → PerformsOf l k w s q (Err StillQueued) w s q
+  refuses_6 o a b u mem = let c = view_of l w s q mem in unchanged k w s q mem (Err StillQueued) o (p c ∙ idle_6 c (f c) (has a) (waits b u))
 
   pub goes_ahead : some? (get_or (lists_of l s) n []) ≡ true → {b : Bool} → b ≡ member n (queue_in 0 (word w 6) q) || member n (queue_in 1 (word w 8) q) → b ≡ false
       → (mem : List ℕ) → perform k (view_of l w s q mem) ≡ f (view_of l w s q mem)
   goes_ahead a b u mem = let c = view_of l w s q mem in p c ∙ idle_done c (f c) (has a) (waits b u)
 
 -- 40h: the pool is empty, and then the result is stored, and that nothing waits.
-pub resets : {l : Layout} (w s q mem : List ℕ) {w₁ w₂ s' q' : List ℕ} → EmptiedOf l (length s) w w₁ s' q' → Sets (λ r. set_waiting 0 (set_result 0x80 r)) w₁ w₂ → MakesOf l (perform reset (view_of l w s q mem)) (Done 0) w₂ s' q' mem
+pub resets : {l : Layout} (w s q mem : List ℕ) {w₁ w₂ s' q' : List ℕ} → EmptiedOf l (length s) w w₁ s' q' → Sets (λ r. set_waiting 0 (set_result 0x80 r)) w₁ w₂ → MakesOf l (perform reset (view_of l w s q mem)) (Ok 0) w₂ s' q' mem
 unfolding perform
 resets {l} w s q mem {s' = s'} {q' = q'} e g =
     performs reset w s q mem (λ x. in_registers (λ r. set_waiting 0 (set_result 0x80 r)) (in_pool (λ p. empty_pool x.pool.layout (size x)) x)) refl

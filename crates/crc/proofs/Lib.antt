@@ -1,4 +1,4 @@
 -- Proofs that belong to no one function.
 pub mod Bytes
 pub mod Words
-pub mod Arms
+pub mod Nibbles

@@ -88,15 +88,22 @@ joined n a t u h p q =
     ∙ ap (mirror 32) (sym (bits_xor 32 0 0 x y (omega (arith, whole)) (omega (arith, whole))) ∙ ap (crc_bits 32 0) (xor_shifted (mirror 4 (a % 16)) n y (mirror_lt n (a / 16)) ∙ sym (mirror_parts 4 n a)))
 
 -- a byte goes out: 32 shifts of it in the last place are eight in the first
-byte_goes_out : (a t : ℕ) → a < 2 ^ 32 → t ≡ mirror 32 (crc_bits 32 0 (mirror 8 (a % 256))) → mirror 32 (bit_xor t (a / 256)) ≡ crc_bits 8 0 (mirror 32 a)
+none_left : (y : ℕ) → mirror 0 y ≡ 0
+unfolding mirror
+none_left y = refl
+
+low_eight : (a : ℕ) → mirror 8 a ≡ mirror 8 (a % 256)
+low_eight a = omega (arith, mirror_parts 8 0 a, none_left (a / 256))
+
+byte_goes_out : (a t : ℕ) → a < 2 ^ 32 → t ≡ mirror 32 (crc_bits 32 0 (mirror 8 a)) → mirror 32 (bit_xor t (a / 256)) ≡ crc_bits 8 0 (mirror 32 a)
 byte_goes_out a t h p =
     let x = mirror 8 (a % 256) in
     let y = mirror 24 (a / 256) in
     let hx : x < 256 = mirror_lt 8 (a % 256) in
     let hy : y < 2 ^ 24 = mirror_lt 24 (a / 256) in
     mirror_xor 32 t (a / 256)
-    ∙ ap₂ bit_xor (as_shifted t x (omega arith) p ∙ bits_join 24 8 0 0 x (omega arith) ∙ ap (crc_bits 8 0) (bits_shift 24 x (omega arith))) (mirror_wider 24 8 (a / 256) (omega arith) ∙ sym (bits_shift 8 y (omega arith)))
+    ∙ ap₂ bit_xor (as_shifted t x (omega arith) (p ∙ ap (λ (z : ℕ). mirror 32 (crc_bits 32 0 z)) (low_eight a)) ∙ bits_join 24 8 0 0 x (omega arith) ∙ ap (crc_bits 8 0) (bits_shift 24 x (omega arith))) (mirror_wider 24 8 (a / 256) (omega arith) ∙ sym (bits_shift 8 y (omega arith)))
     ∙ sym (bits_xor 8 0 0 (x * 2 ^ 24) y (omega arith) (omega arith)) ∙ ap (crc_bits 8 0) (xor_shifted x 24 y hy ∙ sym (mirror_parts 8 24 a))
 
-pub byte_comes_in : (s a t : ℕ) → s < 2 ^ 32 → a < 256 → t ≡ mirror 32 (crc_bits 32 0 (mirror 8 (bit_xor s a % 256))) → mirror 32 (bit_xor t (bit_xor s a / 256)) ≡ crc_bits 8 a (mirror 32 s)
-byte_comes_in s a t hs ha p = byte_goes_out (bit_xor s a) t (xor_lt 32 s a hs (omega arith)) p ∙ comes_in 8 a s ha (omega arith)
+pub byte_comes_in : (s a b t : ℕ) → s < 2 ^ 32 → a < 256 → b ≡ a → t ≡ mirror 32 (crc_bits 32 0 (mirror 8 (bit_xor s b))) → mirror 32 (bit_xor t (bit_xor s b / 256)) ≡ crc_bits 8 a (mirror 32 s)
+byte_comes_in s a b t hs ha e p = byte_goes_out (bit_xor s b) t (xor_lt 32 s b hs (omega (arith, e))) p ∙ comes_in 8 b s (omega (arith, e)) (omega (arith, e)) ∙ ap (λ (x : ℕ). crc_bits 8 x (mirror 32 s)) e

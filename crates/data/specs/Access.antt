@@ -1,5 +1,5 @@
 -- What the parts of a data access promise: which packet the pointer means, where the first byte lies or why it is refused, and what is behind the gate.
-use Rattle.std.specs.Prelude.{◌≡◌, Bool, true, false, cond, not, List, [], ◌∷◌, ℕ, ◌*◌, ◌/◌, ◌%◌, ◌<◌, length, get_or, drop}
+use Rattle.std.specs.Prelude.{◌≡◌, Bool, true, false, cond, not, List, [], ◌∷◌, ℕ, ◌*◌, ◌/◌, ◌%◌, ◌<◌, length, get_or, drop, Result, Ok, Err}
 use Rattle.rules.specs.Bits.{low_byte, high_byte}
 use Rattle.rules.specs.Lists.{some?}
 use Rattle.rules.specs.Chip.{Registers, Layout, paged, Chip}
@@ -9,12 +9,12 @@ use Rattle.rules.specs.Packet.{place, get_bytes, put_bytes}
 use Rattle.rules.specs.Data.{rcv, against, odd_fixed, past, address, next, moved, value_of}
 use Rattle.lists.specs.Bytes.{Below}
 use Rattle.sets.specs.Views.{pages_of}
-use Rattle.state.specs.declared.Answer.{Answer}
+use Rattle.state.specs.Meaning.{Answer}
 use Rattle.state.specs.Meaning.{reply_of}
 use Rattle.state.specs.View.{word, queue_in, lists_of, view, Kept}
 use Rattle.state.specs.Promise.{Sound, Makes}
-use Rattle.data.specs.declared.Gate.{Gate}
-use Rattle.data.specs.declared.Gate.TheVariants.{Open, Refused}
+use Rattle.state.specs.declared.Refusal.{Refusal}
+use Rattle.data.specs.declared.Spot.{Spot}
 
 -- a word takes two bytes
 abbrev pub width_of : Bool → ℕ
@@ -74,9 +74,9 @@ pub record Stands (pages : List ℕ) (p at rest : ℕ) : Type 0 where
   pub reaches : address p < 256 * length pages
 
 -- what a gate says of an access by the pointer p to a packet with these pages
-abbrev pub Guards : Bool → ℕ → List ℕ → Gate → Type 0
-Guards isRead p pages (Open at rest) = Stands pages p at rest × ((width : ℕ) (c : Chip) (s : Effect) → if_any isRead width p pages c s ≡ unless_past width p pages c s)
-Guards isRead p pages (Refused a) = (width : ℕ) (c : Chip) (s : Effect) → 0 < width → if_any isRead width p pages c s ≡ record { reply = reply_of a; chip = c }
+abbrev pub Guards : Bool → ℕ → List ℕ → Result Spot Refusal → Type 0
+Guards isRead p pages (Ok x) = Stands pages p x.at x.rest × ((width : ℕ) (c : Chip) (s : Effect) → if_any isRead width p pages c s ≡ unless_past width p pages c s)
+Guards isRead p pages (Err a) = (width : ℕ) (c : Chip) (s : Effect) → 0 < width → if_any isRead width p pages c s ≡ record { reply = reply_of (Err a); chip = c }
 
 -- what an access behind the gate may rest on: words and memory are whole, and its bytes lie in pages of the memory
 pub record Room (w mem : List ℕ) (at rest : ℕ) : Type 0 where

@@ -1,7 +1,7 @@
 -- Behind the gate: where the bytes of an access lie, whether the second is past the packet's pages, and the effect that the access then makes.
-use Rattle.std.specs.Prelude.{◌≡◌, refl, true, false, set, drop}
+use Rattle.std.specs.Prelude.{◌≡◌, refl, true, false, set, drop, Ok, Err}
 use Rattle.std.proofs.Math.Path.{ap}
-use Rattle.std.proofs.Common.{ap₂, ◌∙◌, arith}
+use Rattle.std.proofs.Common.{ap₂, sym, subst, ◌∙◌, arith}
 use mathlib.Core.List.{List}
 use Prim.Native.Nat.{ℕ, suc, ◌+◌, ◌*◌, ◌/◌, ◌%◌, ◌^◌, ◌<◌}
 use borrow.Author.Tests.{lt-ltb, le-ltb}
@@ -16,8 +16,8 @@ use Rattle.rules.specs.Data.{past, address, value_of}
 use Rattle.lists.specs.Bytes.{Below, below_at}
 use Rattle.sets.specs.Views.{pages_of}
 use Rattle.sets.specs.Pages.{rest_none, rest_goes, rest_first}
-use Rattle.state.specs.declared.Answer.TheVariants.{Done, PastPages}
-use Rattle.state.specs.Meaning.{reply_of}
+use Rattle.state.specs.declared.Refusal.TheVariants.{PastPages}
+use Rattle.state.specs.Meaning.{Answer, reply_of}
 use Rattle.state.specs.View.{word, view_of}
 use Rattle.state.specs.Promise.{Sets, sets_chip, sets_sound, SoundOf, MakesOf}
 use Rattle.data.specs.Access.{bytes_for, unless_past, read_behind, write_behind, Stands, moves}
@@ -86,18 +86,22 @@ two_written mem pages a v l h f g = rw (l, h, f, g)
 
 -- The effect: refusal 10, and nothing changes; or the value, or the bytes written, and the pointer moved.
 module _ {l : Layout} (width : ℕ) (pages w s q mem : List ℕ) (o : SoundOf l w s q) where
-  pub is_past : (e : Effect) → past width (word w 19) pages ≡ true → MakesOf l (unless_past width (word w 19) pages (view_of l w s q mem) e) PastPages w s q mem
+  pub is_past : (e : Effect) → past width (word w 19) pages ≡ true → MakesOf l (unless_past width (word w 19) pages (view_of l w s q mem) e) (Err PastPages) w s q mem
   unfolding unless_past
   is_past e t = rw t (record { chip = refl; reply = refl; sound = o })
 
   module _ {w' : List ℕ} (t : past width (word w 19) pages ≡ false) (m : Sets (moves width) w w') where
-    pub reads : (v : ℕ) → v ≡ value_of (get_bytes width (address (word w 19)) pages mem) → MakesOf l (read_behind width pages (view_of l w s q mem)) (Done v) w' s q mem
+    pub reads : (v : ℕ) → v ≡ value_of (get_bytes width (address (word w 19)) pages mem) → MakesOf l (read_behind width pages (view_of l w s q mem)) (Ok v) w' s q mem
     unfolding unless_past
-    reads v e = rw t (record { chip = sets_chip m l s q mem; reply = ap (λ (v : ℕ). reply_of (Done v)) e; sound = sets_sound m o })
+    reads v e = rw t (record { chip = sets_chip m l s q mem; reply = ap (λ (v : ℕ). reply_of (Ok v)) e; sound = sets_sound m o })
 
 -- The same of bytes that are written: memory mem' after it.
 pub writes : {l : Layout} (bytes pages w s q mem : List ℕ) {w' mem' : List ℕ} → SoundOf l w s q → past (length bytes) (word w 19) pages ≡ false → Sets (moves (length bytes)) w w'
-    → mem' ≡ put_bytes bytes (address (word w 19)) pages mem → MakesOf l (write_behind bytes pages (view_of l w s q mem)) (Done 0) w' s q mem'
+    → mem' ≡ put_bytes bytes (address (word w 19)) pages mem → MakesOf l (write_behind bytes pages (view_of l w s q mem)) (Ok 0) w' s q mem'
 unfolding unless_past
 writes {l} bytes pages w s q mem o t m e =
     rw (t, e) (record { chip = ap (in_memory (put_bytes bytes (address (word w 19)) pages)) (sets_chip m l s q mem); reply = refl; sound = sets_sound m o })
+
+-- What makes an effect makes it said otherwise.
+pub makes_as : {l : Layout} {e f : Effect} {a : Answer} {w s q mem : List ℕ} → e ≡ f → MakesOf l f a w s q mem → MakesOf l e a w s q mem
+makes_as {l} {a = a} {w = w} {s = s} {q = q} {mem = mem} x = subst (λ (k : Effect). MakesOf l k a w s q mem) (sym x)

@@ -1,5 +1,5 @@
 -- How a gate stands for the tests of the rules: refusals 7 or 5, 8, 9 and 10 in this order; and that an access goes by the pages of the packet that is meant.
-use Rattle.std.specs.Prelude.{◌≡◌, Bool, not, ◌||◌, ℕ, zero, suc, ◌+◌, ◌*◌, ◌/◌, ◌≤◌, ◌<◌, drop}
+use Rattle.std.specs.Prelude.{◌≡◌, Bool, not, ◌||◌, ℕ, zero, suc, ◌+◌, ◌*◌, ◌/◌, ◌≤◌, ◌<◌, drop, Ok, Err}
 use Rattle.std.proofs.Math.Path.{refl, ap}
 use Rattle.std.proofs.Common.{sym, subst, ◌∙◌, true≢false, arith}
 use Rattle.std.proofs.Math.Bool.{true, false, cond}
@@ -16,11 +16,12 @@ use Rattle.rules.specs.Data.{rcv, against, odd_fixed, past, address, if_packet, 
 use Rattle.lists.specs.Facts.{or_left, or_right, member_first, member_later}
 use Rattle.lists.specs.Bytes.{Below, place_room}
 use Rattle.wellformed.specs.Parts.{part_few}
-use Rattle.state.specs.declared.Answer.{Answer}
+use Rattle.state.specs.Meaning.{Answer}
 use Rattle.state.specs.Meaning.{reply_of}
 use Rattle.state.specs.View.{word, view_of}
 use Rattle.state.specs.Promise.{ReadyOf, Ready, MakesOf}
-use Rattle.data.specs.declared.Gate.TheVariants.{Open, Refused}
+use Rattle.state.specs.declared.Refusal.{Refusal}
+use Rattle.data.specs.declared.Spot.{Spot}
 use Rattle.data.specs.Access.{head_or24, meant_by, pages_meant_of, pages_meant, refusal_if, refusal_of, if_any, unless_past, Stands, Guards, Room}
 
 -- The tests in their order, where the last holds if no other does.
@@ -33,8 +34,8 @@ in_order true false false q k c s h = ap (λ (b : Bool). cond b (refuse 10 c) s)
 
 module _ (isRead : Bool) (p : ℕ) (pages : List ℕ) (none : Bool) where
   -- A gate that refuses: there is no such page, or refusal 8 or 9 stands before.
-  pub refuses : (a : Answer) → reply_of a ≡ rules.refusal (refusal_of isRead p pages) → none || (against isRead p || odd_fixed p) ≡ true
-      → (none ≡ true → length pages ≤ address p / 256) → Guards isRead p pages (Refused a)
+  pub refuses : (a : Refusal) → reply_of (Err a) ≡ rules.refusal (refusal_of isRead p pages) → none || (against isRead p || odd_fixed p) ≡ true
+      → (none ≡ true → length pages ≤ address p / 256) → Guards isRead p pages (Err a)
   unfolding if_any refusal_if past
   refuses a e t h width c s some =
       in_order (some? pages) (against isRead p) (odd_fixed p) _ (cond (rcv p) 7 5) c s (λ f. lt-ltb (256 * length pages) (address p + width) (omega (arith, h (left none f t))))
@@ -45,7 +46,7 @@ module _ (isRead : Bool) (p : ℕ) (pages : List ℕ) (none : Bool) where
       left false f g = absurd (true≢false (sym g ∙ f))
 
   -- A gate that is open: the tests before 10 do not hold.
-  pub opens : (at rest : ℕ) → none || (against isRead p || odd_fixed p) ≡ false → Stands pages p at rest → Guards isRead p pages (Open at rest)
+  pub opens : (at rest : ℕ) → none || (against isRead p || odd_fixed p) ≡ false → Stands pages p at rest → Guards isRead p pages (Ok (record { at = at; rest = rest }))
   unfolding if_any unless_past some?
   opens at rest f h =
       let g = or_right none (against isRead p || odd_fixed p) f in
@@ -81,11 +82,11 @@ module _ {l : Layout} {w s q : List ℕ} (k : ReadyOf l w s q) (mem : List ℕ) 
   enters isRead width f = by_meant (part_few k.sound.sets.part) (view_of l w s q mem) k.well (λ pages. if_open isRead width pages (view_of l w s q mem) (f pages))
 
   -- So it is what the gate says.
-  pub stopped : (isRead : Bool) (width : ℕ) (f : List ℕ → Effect) (a : Answer) → Guards isRead (word w 19) (pages_meant_of l w s q) (Refused a) → 0 < width
-      → MakesOf l (if_packet (view_of l w s q mem) (λ pages. if_open isRead width pages (view_of l w s q mem) (f pages))) a w s q mem
+  pub stopped : (isRead : Bool) (width : ℕ) (f : List ℕ → Effect) (a : Refusal) → Guards isRead (word w 19) (pages_meant_of l w s q) (Err a) → 0 < width
+      → MakesOf l (if_packet (view_of l w s q mem) (λ pages. if_open isRead width pages (view_of l w s q mem) (f pages))) (Err a) w s q mem
   stopped isRead width f a g some = rw (enters isRead width f ∙ g width _ _ some) (record { chip = refl; reply = refl; sound = k.sound })
 
-  pub passed : (isRead : Bool) (width : ℕ) (f : List ℕ → Effect) {at rest : ℕ} {a : Answer} {w' mem' : List ℕ} → Guards isRead (word w 19) (pages_meant_of l w s q) (Open at rest)
+  pub passed : (isRead : Bool) (width : ℕ) (f : List ℕ → Effect) {x : Spot} {a : Answer} {w' mem' : List ℕ} → Guards isRead (word w 19) (pages_meant_of l w s q) (Ok x)
       → MakesOf l (unless_past width (word w 19) (pages_meant_of l w s q) (view_of l w s q mem) (f (pages_meant_of l w s q))) a w' s q mem'
       → MakesOf l (if_packet (view_of l w s q mem) (λ pages. if_open isRead width pages (view_of l w s q mem) (f pages))) a w' s q mem'
   passed isRead width f g m = rw (enters isRead width f ∙ g.1 width _ _) m

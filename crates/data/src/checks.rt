@@ -1,5 +1,5 @@
 // Which packet the pointer means, and where the first byte of an access lies or why it is refused.
-ghost use Rattle.std.specs.Prelude.{◌≡◌, ◌+◌, ◌*◌, ◌%◌, ◌<◌, get_or};
+ghost use Rattle.std.specs.Prelude.{◌≡◌, ◌+◌, ◌*◌, ◌%◌, ◌<◌, get_or, Err};
 ghost use Rattle.rules.specs.Answers as rules;
 ghost use Rattle.rules.specs.Data.{against, odd_fixed};
 ghost use Rattle.sets.specs.Views.{pages_of};
@@ -8,9 +8,10 @@ ghost use Rattle.state.specs.View.{word, figures, Kept};
 ghost use Rattle.state.specs.Promise.{QueuesIn, Sound};
 ghost use Rattle.data.specs.Access.{meant_in, pages_meant, refusal_if, Guards};
 
-use crate::Gate;
+use crate::Spot;
+use pool::Rx;
 use sets::{Address, Packet};
-use state::{Answer, PACKET, PAGE_BYTES, PLACES, POINTER, RX_COUNT, flags};
+use state::{PACKET, PAGE_BYTES, PLACES, POINTER, RX_COUNT, Refusal, flags};
 
 // RCV set means the head of RX, clear means the packet number register. No packet of either part has the number PLACES, which stands for the head of an empty RX.
 pub fn meant(words: &[u16], queues: &[u8]) -> Packet
@@ -23,7 +24,7 @@ pub fn meant(words: &[u16], queues: &[u8]) -> Packet
     if words[RX_COUNT] == 0 {
         return Packet(PLACES);
     }
-    pool::rx_head(queues)
+    pool::head::<Rx>(queues)
 }
 
 // Refusal 8: is the access against the READ bit?
@@ -47,22 +48,22 @@ pub fn is_odd_fixed(pointer: u16) -> bool
 }
 
 // The refusals in their order: 7 or 5, 8, 9, 10.
-pub fn refusal(has_pages: bool, reading: bool, pointer: u16) -> Answer
-    ensures { reply_of result ≡ rules.refusal (refusal_if has_pages reading pointer) }
+pub fn refusal(has_pages: bool, reading: bool, pointer: u16) -> Refusal
+    ensures { reply_of (Err result) ≡ rules.refusal (refusal_if has_pages reading pointer) }
 {
     if !has_pages {
         if bits::is_set(pointer, flags::RCV) {
-            return Answer::RxEmpty;
+            return Refusal::RxEmpty;
         }
-        return Answer::NotAllocated;
+        return Refusal::NotAllocated;
     }
     if is_against(pointer, reading) {
-        return Answer::AgainstRead;
+        return Refusal::AgainstRead;
     }
     if is_odd_fixed(pointer) {
-        return Answer::OddPointer;
+        return Refusal::OddPointer;
     }
-    Answer::PastPages
+    Refusal::PastPages
 }
 
 // Where byte `at` of the set's lowest page lies in memory.
@@ -74,19 +75,20 @@ pub fn place_in(set: u32, at: Address) -> usize
 }
 
 // May an access to the first byte go on?
-fn checked(set: u32, reading: bool, pointer: u16) -> Gate
+fn checked(set: u32, reading: bool, pointer: u16) -> Result<Spot, Refusal>
     ensures { Guards reading pointer (pages_of set) result }
 {
     let rest = sets::without(set, pointer as u32 % 2048 / PAGE_BYTES);
     let refused = bits::either(is_against(pointer, reading), is_odd_fixed(pointer));
     if bits::either(rest == 0, refused) {
-        return Gate::Refused(refusal(sets::has_pages(set), reading, pointer));
+        return Err(refusal(sets::has_pages(set), reading, pointer));
     }
-    Gate::Open(place_in(rest, Address(pointer)), rest)
+    let at = place_in(rest, Address(pointer));
+    Ok(Spot { at, rest })
 }
 
 // The same, for the packet that the pointer means.
-pub fn gate_of(words: &[u16], sets: &[u32], queues: &[u8], reading: bool) -> Gate
+pub fn gate_of(words: &[u16], sets: &[u32], queues: &[u8], reading: bool) -> Result<Spot, Refusal>
     requires { Sound words.now sets.now queues.now }
     ensures { Guards reading (word words.now 19) (pages_meant words.now sets.now queues.now) result }
 {

@@ -1,12 +1,11 @@
 // Reads behind the gate: the first byte lies at i, in the lowest page of `rest`.
 ghost use Rattle.std.specs.Prelude.{◌≡◌, ◌%◌, length};
-ghost use Rattle.state.specs.declared.Answer.TheVariants as Answer;
 ghost use Rattle.data.specs.Access.{Room, Reads};
 
 use crate::checks::place_in;
 use crate::pointer::advance;
 use sets::Address;
-use state::Answer;
+use state::{Answer, Refusal};
 
 // A word whose second byte lies in the next page.
 fn read_across(words: &mut [u16], memory: &[u8], i: usize, rest: u32) -> Answer
@@ -16,10 +15,10 @@ fn read_across(words: &mut [u16], memory: &[u8], i: usize, rest: u32) -> Answer
 {
     let more = sets::without(rest, 1);
     if more == 0 {
-        return Answer::PastPages;
+        return Err(Refusal::PastPages);
     }
     advance(words, 2);
-    Answer::Done(bits::word(memory[i], memory[place_in(more, Address(0))]))
+    Ok(bits::word(memory[i], memory[place_in(more, Address(0))]))
 }
 
 pub fn read_word(words: &mut [u16], memory: &[u8], i: usize, rest: u32) -> Answer
@@ -31,13 +30,13 @@ pub fn read_word(words: &mut [u16], memory: &[u8], i: usize, rest: u32) -> Answe
         return read_across(words, memory, i, rest);
     }
     advance(words, 2);
-    Answer::Done(bits::word(memory[i], memory[i + 1]))
+    Ok(bits::word(memory[i], memory[i + 1]))
 }
 
 // A byte behind the gate is never refused: its value alone.
 pub fn read_byte(words: &mut [u16], memory: &[u8], i: usize, rest: u32) -> u16
     requires { Room words.old memory.now i rest }
-    ensures reads { Reads 1 i rest words.old memory.now (Answer.Done result) words.new }
+    ensures reads { Reads 1 i rest words.old memory.now (Ok result) words.new }
     ensures long { length words.new ≡ length words.old }
 {
     advance(words, 1);

@@ -5,7 +5,7 @@ ghost use Rattle.data.specs.Access.{bytes_for, Room, Writes};
 use crate::checks::place_in;
 use crate::pointer::advance;
 use sets::Address;
-use state::Answer;
+use state::{Answer, Refusal};
 
 // A word whose second byte lies in the next page.
 fn write_across(words: &mut [u16], memory: &mut [u8], i: usize, rest: u32, value: u16) -> Answer
@@ -16,12 +16,12 @@ fn write_across(words: &mut [u16], memory: &mut [u8], i: usize, rest: u32, value
 {
     let more = sets::without(rest, 1);
     if more == 0 {
-        return Answer::PastPages;
+        return Err(Refusal::PastPages);
     }
     advance(words, 2);
     memory[i] = bits::low_byte(value);
     memory[place_in(more, Address(0))] = bits::high_byte(value);
-    Answer::Done(0)
+    Ok(0)
 }
 
 pub fn write_word(words: &mut [u16], memory: &mut [u8], i: usize, rest: u32, value: u16) -> Answer
@@ -36,7 +36,7 @@ pub fn write_word(words: &mut [u16], memory: &mut [u8], i: usize, rest: u32, val
     advance(words, 2);
     memory[i] = bits::low_byte(value);
     memory[i + 1] = bits::high_byte(value);
-    Answer::Done(0)
+    Ok(0)
 }
 
 pub fn write_byte(words: &mut [u16], memory: &mut [u8], i: usize, rest: u32, value: u16) -> Answer
@@ -47,5 +47,5 @@ pub fn write_byte(words: &mut [u16], memory: &mut [u8], i: usize, rest: u32, val
 {
     advance(words, 1);
     memory[i] = bits::low_byte(value);
-    Answer::Done(0)
+    Ok(0)
 }

@@ -1,4 +1,4 @@
--- The promise of strips beside pages, of the code: the public entries of `chip` and of `strip_chip`, of the part with n packets, on the same inputs from power-up.
+-- The promise of strips beside pages, of the code: the public entries of `chip` at `Paged` and at `Strips`, of the part with n packets, on the same inputs from power-up.
 use Rattle.std.specs.Prelude.{◌≡◌, List, [], ◌∷◌, ℕ}
 use Rattle.std.proofs.Common.{ap, sym, subst, ◌∙◌}
 use Rattle.rules.specs.Chip.{paged, strips, Chip, powered}

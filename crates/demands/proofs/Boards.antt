@@ -1,4 +1,4 @@
--- The code as its callers see it: a board is a record with its memory, and a public entry serves an input on it, `chip`'s where the layout l is `paged`, `strip_chip`'s where it is `strips`.
+-- The code as its callers see it: a board is a record with its memory, and a public entry serves an input on it, `chip`'s at its layout: `Paged` where l is `paged`, `Strips` where it is `strips`.
 -- What follows from the entries' promise alone, for one step and for runs.
 use Rattle.std.specs.Prelude.{◌≡◌, refl}
 use Rattle.std.proofs.Math.Path.{ap, ap₂}

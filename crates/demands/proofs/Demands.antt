@@ -1,7 +1,7 @@
 -- The client's three demands, and what document 02's W3 promises of strips, W4 of the frame check sequence, W8 of the link, W9 of its two parts and W10 of private contents, a record for each, of the rules and of the code; each is proved by citing what leads to it.
 -- n is how many packets a part has, and how many pages: "Demand 2 reads 18 for 24 on this part, and so does 01 wherever it counts packets or pages" (W9). All is proved once over n, and `Lan91c96` and `Lan91c94` cite it with 24 and 18.
 -- Of the rules: `step_of n` and `run_of n` (rules/specs/Step) on any chip; `powered l n` is power-up, of document 01's chip where the layout l is `paged`. Of the code: `Serves l i b x`, what the public
--- entries `access`, `frame`, `send` and `link` promise of the input i on any board b (registers, page sets or counts and queues by value, and the memory lent), `chip`'s with l = `paged` and `strip_chip`'s with l = `strips`;
+-- entries `access`, `frame`, `send` and `link` promise of the input i on any board b (registers, page sets or counts and queues by value, and the memory lent), `chip`'s at `Paged` with l = `paged` and at `Strips` with l = `strips`;
 -- `Runs l` of inputs one after another; `chip_of l b` is the chip that a board stands for, `part_in b` the n that it names, `reply_to x` document 01's number and value. `Good l b`: it is in order; `GoodOf n l b`: and names n.
 use Rattle.std.specs.Prelude.{refl, ℕ, ◌≤◌}
 use Rattle.std.proofs.Common.{arith}

@@ -1,4 +1,4 @@
--- The code as its callers see it: a board is a record with its memory, and a public entry serves an input on it, `chip`'s where the layout l is `paged`, `strip_chip`'s where it is `strips`.
+-- The code as its callers see it: a board is a record with its memory, and a public entry serves an input on it, `chip`'s at its layout: `Paged` where l is `paged`, `Strips` where it is `strips`.
 -- What follows from the entries' promise alone, for one step and for runs.
 use Rattle.std.specs.Prelude.{◌≡◌, refl, Bool, ℕ}
 use Rattle.std.proofs.Math.Path.{ap, ap₂}
@@ -10,7 +10,7 @@ use Rattle.rules.specs.Answers.{Reply, Turn, refusal}
 use Rattle.rules.specs.Step.{Input, lent, step, step_of, run_of}
 use Rattle.wellformed.proofs.Parts.{step_of_part}
 use Rattle.laws.specs.Layout.{size_stays}
-use Rattle.state.specs.declared.Answer.{Answer}
+use Rattle.state.specs.Meaning.{Answer}
 use Rattle.state.specs.Meaning.{reply_of}
 use Rattle.state.specs.Entry.{size_in, record_view, HoldsOf, WholeOf, AnswersOf, StartedOf, LinesOf, zeros}
 use Rattle.state.specs.Places.{names_part, places_told}
@@ -59,7 +59,7 @@ module _ (l : Layout) where
   abbrev pub Good : Board → Type 0
   Good b = WholeOf l b.words b.pages b.queues b.memory
 
-  -- `access`, `frame`, `send` and `link` of `chip` and of `strip_chip` promise this of their input i, and ask nothing: on the board b they leave x
+  -- `access`, `frame`, `send` and `link` of `chip`, at each layout, promise this of their input i, and ask nothing: on the board b they leave x
   abbrev pub Serves : Input → Board → Left → Type 0
   Serves i b x = AnswersOf l i b.words b.pages b.queues b.memory x.answer x.board.words x.board.pages x.board.queues x.board.memory x.output
 

@@ -1,10 +1,11 @@
 -- Refusal 16 by its tests: what is asked of a record with 24 places, for the part with n packets. Of the part that it names all of it is so exactly where the record holds (`holds_asked`, `asked_holds`).
-use Rattle.std.specs.Prelude.{◌≡◌, List, map, ℕ, ◌-◌, length, drop, replicate}
+use Rattle.std.specs.Prelude.{◌≡◌, Bool, List, map, ℕ, ◌-◌, length, drop, replicate}
 use Rattle.std.proofs.Common.{ap, sym, subst, ◌∙◌, arith, length-take-le}
 use Rattle.rules.specs.Bits.{word_of}
 use Rattle.rules.specs.Lists.{free_below}
 use Rattle.rules.specs.Parts.{IsPart}
 use Rattle.rules.specs.WellFormed.{GoodPages, GoodQueues, GoodNumbers}
+use Rattle.lists.specs.Facts.{Decides, agrees}
 use Rattle.wellformed.specs.Parts.{part_few}
 use Rattle.sets.specs.Views.{pages_of}
 use Rattle.sets.specs.Lists.{lists_length}
@@ -67,3 +68,11 @@ module _ {w s q : List ℕ} where
         };
         rest = a.rest;
       }
+
+-- So what decides all that is asked on the part that a record names decides whether it holds.
+module _ {b : Bool} {n : ℕ} {w s q : List ℕ} (named : n ≡ size_in w) (long : length s ≡ 24) (small : Small s) where
+  pub asked_decides : Decides b (Asked n w s q) → Decides b (Holds w s q)
+  asked_decides d =
+      agrees d
+      (λ a. asked_holds long small (subst (λ (m : ℕ). Asked m w s q) named a))
+      (λ h. subst (λ (m : ℕ). Asked m w s q) (sym named) (holds_asked h))

@@ -1,10 +1,10 @@
 -- One pass over the entries of RX, and on over those of TX: what it decides of both queues. The packets seen are bits of a number, so an entry is new
 -- where its bit is clear; after RX the bits are RX's members (`gathered_bit`), and what TX has beside them is in TX alone and once.
-use Rattle.std.specs.Prelude.{◌≡◌, refl, Bool, true, false, not, ◌&&◌, ◌||◌, List, [], ◌∷◌, ℕ, zero, suc, ◌+◌, ◌^◌, ◌≤◌, ◌<◌, eqb, ltb, length, take, drop, get_or}
+use Rattle.std.specs.Prelude.{◌≡◌, refl, Bool, true, false, not, ◌&&◌, ◌||◌, List, [], ◌∷◌, map, ℕ, zero, suc, ◌+◌, ◌^◌, ◌≤◌, ◌<◌, eqb, ltb, length, drop, get_or}
 use Rattle.std.proofs.Math.Path.{ap}
-use Rattle.std.proofs.Common.{ap₂, sym, ◌∙◌, true≢false, ⊎_elim, add-one, arith, eqb-true, eq-eqb, drop_of_length-le, drop-cons, length-take-le, get_or-take}
+use Rattle.std.proofs.Common.{ap₂, sym, ◌∙◌, true≢false, ⊎_elim, add-one, arith, eqb-true, eq-eqb, drop-cons}
 use Rattle.std.specs.Int.Bits.{bit_or}
-use Rattle.std.proofs.lemmas.Nat.{or_comm, or_disjoint}
+use Rattle.std.proofs.lemmas.Nat.{or_comm, or_disjoint, or_lt}
 use Rattle.std.proofs.Math.Pow.{pow-lt}
 use Rattle.rules.specs.Bits.{bit}
 use Rattle.rules.specs.Lists.{member, some?}
@@ -16,8 +16,9 @@ use Rattle.wellformed.specs.Fit.{below_decides}
 use Rattle.sets.specs.Bits.{bit_or_lem, bit_zero}
 use Rattle.sets.specs.Good.{and_none}
 use Rattle.sets.specs.Members.{set_of, bit_power}
+use Rattle.sets.specs.Views.{pages_of}
+use Rattle.sets.specs.Lists.{lists_length}
 use Rattle.sets.specs.Pages.{or_false, or_assoc}
-use Rattle.guard.specs.Sums.{sum, sum_first}
 
 -- is each entry allocated, and neither among those seen nor earlier in the list
 unfoldable pub passes : List (List ℕ) → ℕ → List ℕ → Bool
@@ -73,9 +74,13 @@ pass_decides ls seen (x ∷ xs) =
     (λ f. ((f.allocated x (member_first x xs), f.unseen x (member_first x xs)), fresh_rest ls seen x xs f))
 
 -- Those seen, as a sum: a packet that was not seen has no bit in common with them.
-joined_sum : (seen x : ℕ) → bit x seen ≡ false → bit_or seen (2 ^ x) ≡ seen + 2 ^ x
+pub joined_sum : (seen x : ℕ) → bit x seen ≡ false → bit_or seen (2 ^ x) ≡ seen + 2 ^ x
 joined_sum seen x new =
     or_comm seen (2 ^ x) ∙ or_disjoint (2 ^ x) seen (and_none (suc x) (2 ^ x) seen (pow-lt (omega arith)) (λ k b. ap (λ (y : ℕ). bit y seen) (eqb-true k x (sym (bit_power k x) ∙ b)) ∙ new)) ∙ omega arith
+
+-- They fit, as each does.
+pub joined_fits : (seen x : ℕ) → bit x seen ≡ false → seen < 2 ^ 32 → x < 32 → seen + 2 ^ x < 2 ^ 32
+joined_fits seen x new few h = omega (arith, joined_sum seen x new, or_lt 32 seen (2 ^ x) few (pow-lt h))
 
 pub gathered_set : (ls : List (List ℕ)) (seen : ℕ) (l : List ℕ) → passes ls seen l ≡ true → gathered seen l ≡ seen + set_of l
 unfolding gathered set_of
@@ -119,26 +124,24 @@ some_below [] k e = absurd (true≢false (sym e))
 some_below (l ∷ ls) zero e = omega arith
 some_below (l ∷ ls) (suc k) e = omega (arith, some_below ls k e)
 
--- Going down the first c places of a list.
-pub none_left : (p : List ℕ) (c i : ℕ) → c ≤ length p → c ≤ i → drop i (take c p) ≡ []
-none_left p c i fits h = drop_of_length-le (take c p) {i = i} (omega (arith, length-take-le c p fits))
+-- So it is one of 24, where there are so many page sets.
+pub allocated_below : (s : List ℕ) (k : ℕ) → some? (get_or (map pages_of s) k []) ≡ true → k < length s
+allocated_below s k e = omega (arith, some_below (map pages_of s) k e, lists_length s)
 
-module _ (p : List ℕ) (c i : ℕ) (fits : c ≤ length p) (h : i < c) where
-  entry_left : drop i (take c p) ≡ get_or p i 0 ∷ drop (i + 1) (take c p)
-  entry_left = drop-cons (take c p) i 0 (omega (arith, length-take-le c p fits)) ∙ ap₂ (λ (x n : ℕ). x ∷ drop n (take c p)) (get_or-take c p i 0 h) (sym (add-one i))
+-- Going down a list, from an entry to those behind it.
+module _ (l : List ℕ) (i : ℕ) (h : i < length l) where
+  entry_left : drop i l ≡ get_or l i 0 ∷ drop (i + 1) l
+  entry_left = drop-cons l i 0 h ∙ ap (λ (n : ℕ). get_or l i 0 ∷ drop n l) (sym (add-one i))
 
-  pub below_here : (n : ℕ) → all_below n (drop i (take c p)) ≡ ltb (get_or p i 0) n && all_below n (drop (i + 1) (take c p))
+  pub below_here : (n : ℕ) → all_below n (drop i l) ≡ ltb (get_or l i 0) n && all_below n (drop (i + 1) l)
   unfolding all_below
   below_here n = ap (all_below n) entry_left
 
   pub pass_here : (ls : List (List ℕ)) (seen : ℕ)
-      → passes ls seen (drop i (take c p)) ≡ some? (get_or ls (get_or p i 0) []) && not (bit (get_or p i 0) seen) && passes ls (bit_or seen (2 ^ get_or p i 0)) (drop (i + 1) (take c p))
+      → passes ls seen (drop i l) ≡ some? (get_or ls (get_or l i 0) []) && not (bit (get_or l i 0) seen) && passes ls (bit_or seen (2 ^ get_or l i 0)) (drop (i + 1) l)
   unfolding passes
   pass_here ls seen = ap (passes ls seen) entry_left
 
-  pub gather_here : (seen : ℕ) → gathered seen (drop i (take c p)) ≡ gathered (bit_or seen (2 ^ get_or p i 0)) (drop (i + 1) (take c p))
+  pub gather_here : (seen : ℕ) → gathered seen (drop i l) ≡ gathered (bit_or seen (2 ^ get_or l i 0)) (drop (i + 1) l)
   unfolding gathered
   gather_here seen = ap (gathered seen) entry_left
-
-  pub added_here : sum (drop i (take c p)) ≡ get_or p i 0 + sum (drop (i + 1) (take c p))
-  added_here = ap sum entry_left ∙ sum_first _ _

@@ -1,5 +1,5 @@
 -- What the tests of the queues decide, beside the words w and the page sets s, on the part with n packets.
-use Rattle.std.specs.Prelude.{◌≡◌, true, List, map, ℕ, ◌+◌, ◌-◌, ◌≤◌, ◌<◌, length}
+use Rattle.std.specs.Prelude.{◌≡◌, true, List, map, ℕ, ◌+◌, ◌-◌, ◌≤◌, ◌<◌, length, sum}
 use Rattle.std.proofs.Common.{sym, ◌∙◌, arith, length-take-le}
 use Rattle.rules.specs.Tests.{all_below}
 use Rattle.rules.specs.WellFormed.{GoodQueues}
@@ -13,7 +13,7 @@ use Rattle.state.specs.View.{word, figures, rx_bits, tx_bits, queue_in}
 use Rattle.state.specs.Promise.{QueuesIn}
 use Rattle.state.specs.Counted.{whole, halves}
 use Rattle.guard.specs.Pass.{passes, gathered, gathered_set, rx_passes, tx_passes, entries_good}
-use Rattle.guard.specs.Sums.{sum, queues_sum, rx_slots, tx_slots, completion_slots}
+use Rattle.guard.specs.Sums.{queues_sum, rx_slots, tx_slots, completion_slots}
 
 module _ (n : ℕ) (w s q : List ℕ) (long : length q ≡ 72) where
   abbrev ls : List (List ℕ)

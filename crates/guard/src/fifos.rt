@@ -1,13 +1,12 @@
 // The three queues: entries that may be there, 0 behind them, and the figures kept of them.
-ghost use Rattle.std.specs.Prelude.{◌≡◌, true, map, ◌^◌, ◌≤◌, ◌<◌, length, take};
-ghost use Rattle.std.specs.Int.Bits.{bit_or};
+ghost use Rattle.std.specs.Prelude.{◌≡◌, true, map, sum, ◌≤◌, length, take};
+ghost use Rattle.std.specs.Option.{SomeIff};
 ghost use Rattle.rules.specs.Tests.{all_below};
 ghost use Rattle.rules.specs.WellFormed.{GoodQueues};
 ghost use Rattle.lists.specs.Facts.{Decides};
 ghost use Rattle.sets.specs.Views.{pages_of};
 ghost use Rattle.state.specs.View.{word, figures, rx_bits, tx_bits, queue_in};
 ghost use Rattle.state.specs.Promise.{QueuesIn};
-ghost use Rattle.guard.specs.Sums.{sum};
 ghost use Rattle.guard.specs.Pass.{passes, gathered};
 
 use queues::marks;
@@ -22,13 +21,7 @@ fn total(bytes: &[u8]) -> u16
     requires { length bytes.now ≡ 72 }
     ensures { result ≡ sum bytes.now }
 {
-    let mut added = 0;
-    let mut i = 0;
-    while i < QUEUES_END {
-        added += bytes[i] as u16;
-        i += 1;
-    }
-    added
+    bytes.iter().map(|&byte| byte as u16).sum()
 }
 
 // Has each queue room for so many entries? Completion holds as many as the part has packets.
@@ -36,13 +29,7 @@ fn counts_fit(words: &[u16], size: usize) -> bool
     requires { length words.now ≡ 32 }
     ensures { Decides result ((word words.now 6 ≤ 24) × (word words.now 8 ≤ 24) × (word words.now 9 ≤ size)) }
 {
-    if 24 < words[RX_COUNT] {
-        return false;
-    }
-    if 24 < words[TX_COUNT] {
-        return false;
-    }
-    words[COMPLETION_COUNT] as usize <= size
+    words[RX_COUNT] <= 24 && words[TX_COUNT] <= 24 && words[COMPLETION_COUNT] as usize <= size
 }
 
 // Are these the packets whose bits "in RX" and "in TX" are set?
@@ -50,69 +37,48 @@ fn marks_good(words: &[u16], rx: u32, tx: u32) -> bool
     requires { length words.now ≡ 32 }
     ensures { Decides result ((rx_bits words.now ≡ rx) × (tx_bits words.now ≡ tx)) }
 {
-    if marks::joined(words[IN_RX], words[IN_RX_HIGH]) != rx {
-        return false;
-    }
-    marks::joined(words[IN_TX], words[IN_TX_HIGH]) == tx
+    marks::joined(words[IN_RX], words[IN_RX_HIGH]) == rx
+        && marks::joined(words[IN_TX], words[IN_TX_HIGH]) == tx
 }
 
-// Packets seen have their bit.
-fn with_seen(seen: u32, x: u8) -> u32
-    requires { x < 32 }
-    ensures { result ≡ bit_or seen (2 ^ x) }
-{
-    seen | 1 << x
-}
-
-// Does each entry pass, which packets are seen with them, and what do they add up to?
+// The packets that are seen after a queue, bit k for packet k, and what its entries add up to.
 #[derive(Drop)]
-pub struct Seen(pub bool, pub u32, pub u32);
+struct Seen {
+    packets: u32,
+    sum: u32,
+}
 
-// Is each entry allocated, and not seen before it?
-fn fresh(sets: &[u32], slots: &[u8], count: u16, seen: u32) -> Seen
+// Those seen with the entries, where each is allocated and not seen before it.
+fn fresh(sets: &[u32], slots: &[u8], count: u16, seen: u32) -> Option<Seen>
     requires { (length sets.now ≡ 24) × (length slots.now ≡ 24) × (count ≤ 24) }
-    ensures good { result.0 ≡ passes (map pages_of sets.now) seen (take count slots.now) }
-    ensures all { result.0 ≡ true → result.1 ≡ gathered seen (take count slots.now) }
-    ensures added { result.0 ≡ true → result.2 ≡ sum (take count slots.now) }
+    ensures { let l = take count slots.now in SomeIff result (passes (map pages_of sets.now) seen l ≡ true) (record { packets = gathered seen l; sum = sum l }) }
 {
-    let mut all = seen;
-    let mut added = 0;
-    let mut i = 0;
-    while i < count as usize {
-        let x = slots[i];
-        if !sets::has_pages(sets::set_of(sets, Packet(x))) {
-            return Seen(false, 0, 0);
+    let mut packets = seen;
+    let mut sum = 0;
+    for &entry in &slots[..count as usize] {
+        let packet = Packet(entry);
+        if !sets::has_pages(sets::set_of(sets, packet)) || marks::has(packets, packet) {
+            return None;
         }
-        if marks::has(all, Packet(x)) {
-            return Seen(false, 0, 0);
-        }
-        all = with_seen(all, x);
-        added += x as u32;
-        i += 1;
+        packets = marks::with(packets, packet);
+        sum += entry as u32;
     }
-    Seen(true, all, added)
+    Some(Seen { packets, sum })
 }
 
-// Is each entry a packet number, and what do they add up to?
-#[derive(Drop)]
-pub struct Numbers(pub bool, pub u32);
-
-fn all_below(slots: &[u8], count: u16, limit: usize) -> Numbers
+// What the entries add up to, where each is a packet number.
+fn all_below(slots: &[u8], count: u16, limit: usize) -> Option<u32>
     requires { (length slots.now ≡ 24) × (count ≤ 24) }
-    ensures good { result.0 ≡ all_below limit (take count slots.now) }
-    ensures added { result.0 ≡ true → result.1 ≡ sum (take count slots.now) }
+    ensures { let l = take count slots.now in SomeIff result (all_below limit l ≡ true) (sum l) }
 {
-    let mut added = 0;
-    let mut i = 0;
-    while i < count as usize {
-        let x = slots[i];
-        if limit <= x as usize {
-            return Numbers(false, 0);
+    let mut sum = 0;
+    for &entry in &slots[..count as usize] {
+        if limit <= entry as usize {
+            return None;
         }
-        added += x as u32;
-        i += 1;
+        sum += entry as u32;
     }
-    Numbers(true, added)
+    Some(sum)
 }
 
 // Are the queues laid out as they must be, and their entries what document 01 asks? Those of RX are seen before TX.
@@ -123,15 +89,13 @@ pub fn queues_good(words: &[u16], sets: &[u32], queues: &[u8], size: usize) -> b
     if !counts_fit(words, size) {
         return false;
     }
-    let rx = fresh(sets, &queues[RX..TX], words[RX_COUNT], 0);
-    if !rx.0 {
+    let Some(rx) = fresh(sets, &queues[RX..TX], words[RX_COUNT], 0) else {
         return false;
-    }
-    let tx = fresh(sets, &queues[TX..COMPLETION], words[TX_COUNT], rx.1);
-    if !tx.0 {
+    };
+    let Some(tx) = fresh(sets, &queues[TX..COMPLETION], words[TX_COUNT], rx.packets) else {
         return false;
-    }
-    if !marks_good(words, rx.1, tx.1 - rx.1) {
+    };
+    if !marks_good(words, rx.packets, tx.packets - rx.packets) {
         return false;
     }
     let completion = all_below(
@@ -139,8 +103,8 @@ pub fn queues_good(words: &[u16], sets: &[u32], queues: &[u8], size: usize) -> b
         words[COMPLETION_COUNT],
         size,
     );
-    if !completion.0 {
+    let Some(completion) = completion else {
         return false;
-    }
-    total(queues) == (rx.2 + tx.2 + completion.1) as u16
+    };
+    total(queues) == (rx.sum + tx.sum + completion) as u16
 }

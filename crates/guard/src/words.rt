@@ -11,42 +11,25 @@ use state::{BANK, INTERRUPT, LATCHES, LINK, PACKET, RESERVED};
 fn packet_good(packet: u16, size: usize) -> bool
     ensures { Decides result ((packet % 256 < 64) × ((packet / 256 < size) ⊎ (packet / 256 ≡ 0x80))) }
 {
-    if 64 <= packet % 256 {
-        return false;
-    }
-    if ((packet / 256) as usize) < size {
-        return true;
-    }
-    packet / 256 == 0x80
+    let allocated = packet / 256;
+    packet % 256 < 64 && ((allocated as usize) < size || allocated == 0x80)
 }
 
 // No bit but TX EMPTY and RX_OVRN.
 fn latches_good(x: u16) -> bool
     ensures { Decides result (Latches x) }
 {
-    match x {
-        0 | 4 | 16 | 20 => true,
-        _ => false,
-    }
+    matches!(x, 0 | 4 | 16 | 20)
 }
 
 fn fixed_good(bank: u16, reserved: u16, latches: u16, link: u16, mask: u16) -> bool
     ensures { Decides result (Fixed bank reserved latches link mask) }
 {
-    if bank / 8 != 0x660 {
-        return false;
-    }
-    if reserved / 256 != 0x33 {
-        return false;
-    }
-    if mask % 256 != 0 {
-        return false;
-    }
-    // no bit but the link and its change
-    if 4 <= link {
-        return false;
-    }
-    latches_good(latches)
+    bank / 8 == 0x660
+        && reserved / 256 == 0x33
+        && mask % 256 == 0
+        && link < 4 // no bit but the link and its change
+        && latches_good(latches)
 }
 
 // The words that hold nothing are 0.
@@ -61,33 +44,19 @@ fn blanks_good(words: &[u16]) -> bool
 pub fn request_good(mir: u16, packet: u16, waiting: u16) -> bool
     ensures { Decides result (RequestFormed mir packet waiting) }
 {
-    if waiting == 0 {
-        return true;
-    }
-    if 8 < waiting {
-        return false;
-    }
-    if waiting <= mir / 256 {
-        return false;
-    }
-    packet / 256 == 0x80
+    waiting == 0 || waiting <= 8 && mir / 256 < waiting && packet / 256 == 0x80
 }
 
 pub fn words_good(words: &[u16], size: usize) -> bool
     requires { length words.now ≡ 32 }
     ensures { Decides result (Kept words.now × GoodNumbers size (registers_in words.now).numbers) }
 {
-    if !fixed_good(
+    fixed_good(
         words[BANK],
         words[RESERVED],
         words[LATCHES],
         words[LINK],
         words[INTERRUPT],
-    ) {
-        return false;
-    }
-    if !blanks_good(words) {
-        return false;
-    }
-    packet_good(words[PACKET], size)
+    ) && blanks_good(words)
+        && packet_good(words[PACKET], size)
 }

@@ -1,4 +1,5 @@
 -- The chip after an acknowledge, and after a write of the mask beside it.
+use Rattle.std.specs.Prelude.{Ok}
 use mathlib.Core.Path.{◌≡◌, refl, ap, ap₂, sym, subst, ◌∙◌}
 use mathlib.Core.Bool.{Bool, true, false, cond, not, ◌&&◌}
 use mathlib.Core.List.{List, []}
@@ -11,7 +12,6 @@ use Rattle.rules.specs.Chip.{Registers, Layout, Chip}
 use Rattle.rules.specs.Fields.{set_tx_empty, set_overrun, set_completion, set_mask, in_registers, in_pool}
 use Rattle.rules.specs.Interrupts.{acknowledge}
 use Rattle.rules.specs.Registers.{Lanes, low, high, both, INTERRUPT, write_interrupt, write_register}
-use Rattle.state.specs.declared.Answer.TheVariants.{Done}
 use Rattle.state.specs.Meaning.{is_high, high_after, Joined}
 use Rattle.state.specs.View.{word, registers_in, figures, queue_in, view_of, Kept}
 use Rattle.state.specs.Promise.{QueuesIn, PagesIn, Sets, sets_as, sets_chip, MakesOf}
@@ -101,7 +101,7 @@ module _ (p : Lanes) (v new m : ℕ) (w q : List ℕ) (k : Kept w) (h : QueuesIn
   masked_sets : {l : Layout} {s : List ℕ} → PagesIn l (figures w) s → PagesIn l (figures (set w 22 m)) s
   masked_sets {l} {s} e = subst (λ (c : List ℕ). PagesIn l c s) (sym masked.still) e
 
-  pub writes_mask : is_high p ≡ true → (l : Layout) (s mem : List ℕ) → PagesIn l (figures w) s → MakesOf l (write_register INTERRUPT p v (view_of l w s q mem)) (Done 0) (set w 22 m) s q mem
+  pub writes_mask : is_high p ≡ true → (l : Layout) (s mem : List ℕ) → PagesIn l (figures w) s → MakesOf l (write_register INTERRUPT p v (view_of l w s q mem)) (Ok 0) (set w 22 m) s q mem
   unfolding write_register
   writes_mask e l s mem h = record {
     chip = sets_chip masked l s q mem ∙ mask_alone p v (new / 256) (word w 22) (view_of l w s q mem) e joined.high;
@@ -109,7 +109,7 @@ module _ (p : Lanes) (v new m : ℕ) (w q : List ℕ) (k : Kept w) (h : QueuesIn
     sound = record { kept = masked_kept; queues = masked_queues; sets = masked_sets h };
   }
 
-  pub writes_both : {w' q' : List ℕ} → is_high p ≡ false → Acknowledges v (set w 22 m) q w' q' → (l : Layout) (s mem : List ℕ) → PagesIn l (figures w) s → MakesOf l (write_register INTERRUPT p v (view_of l w s q mem)) (Done 0) w' s q' mem
+  pub writes_both : {w' q' : List ℕ} → is_high p ≡ false → Acknowledges v (set w 22 m) q w' q' → (l : Layout) (s mem : List ℕ) → PagesIn l (figures w) s → MakesOf l (write_register INTERRUPT p v (view_of l w s q mem)) (Ok 0) w' s q' mem
   unfolding write_register
   writes_both e a l s mem h = record {
     chip = a.chip l s mem ∙ ap (acknowledge (low_byte v)) (sets_chip masked l s q mem) ∙ with_mask p v (new / 256) (word w 22) (view_of l w s q mem) e refl joined.high;

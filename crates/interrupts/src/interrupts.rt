@@ -12,6 +12,7 @@ ghost use Rattle.interrupts.specs.Promises.{Acknowledges};
 
 use crate::link::has_changed;
 use crate::words::{high_only, latches_after};
+use pool::Completion;
 use state::{
     Answer, COMPLETION_COUNT, CONTROL, EPHSR, INTERRUPT, LATCHES, LINK, PACKET, RX_COUNT, Width,
     flags,
@@ -103,7 +104,7 @@ fn acknowledge(words: &mut [u16], queues: &mut [u8], v: u16)
     if words[COMPLETION_COUNT] == 0 {
         return;
     }
-    pool::leave_completion(words, queues);
+    pool::leave::<Completion>(words, queues);
 }
 
 // Interrupt status is acknowledged, the mask stored.
@@ -120,8 +121,8 @@ pub fn write_interrupt(
 {
     words[INTERRUPT] = high_only(state::merged(width, offset, value, words[INTERRUPT]));
     if state::is_high(width, offset) {
-        return Answer::Done(0);
+        return Ok(0);
     }
     acknowledge(words, queues, value);
-    Answer::Done(0)
+    Ok(0)
 }

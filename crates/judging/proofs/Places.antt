@@ -1,39 +1,62 @@
--- An address and the multicast table, of which the file has two bytes in a word.
-use mathlib.Core.Path.{◌≡◌, refl, ap, sym, ◌∙◌, subst}
-use mathlib.Core.Bool.{Bool, true, false, ◌&&◌}
-use mathlib.Core.List.{List, [], ◌∷◌}
-use Prim.Native.Nat.{ℕ, zero, suc, ◌+◌, ◌-◌, ◌*◌, ◌/◌, ◌%◌, ◌^◌, ◌≤◌, ◌<◌}
-use native.Mathlib.Omega.{arith}
+-- An address and the multicast table, of which the file has two bytes in a word; and the library's words beside the rules'.
+use Rattle.std.proofs.Common.{◌≡◌, refl, ap, sym, ◌∙◌, subst, Bool, true, false, ◌&&◌, List, [], ◌∷◌, ℕ, zero, suc, ◌+◌, ◌-◌, ◌*◌, ◌/◌, ◌%◌, ◌^◌, ◌≤◌, ◌<◌, arith, eq-eqb, ne_eqb, eqb, length, get_or, replicate, pow-suc, mul_assoc, add-mul}
 use native.Mathlib.Decide.{dec_le, ℕ_discrete}
-use borrow.Author.Tests.{eq-eqb, ne_eqb}
-use lib.Dec.{eqb}
-use lib.ListN.{length, get_or}
 use lib.Pow.{mod-mod-pow, field}
-use Rattle.rules.specs.Bits.{bit, word_of}
-use Rattle.rules.specs.Crc.{four_bytes}
-use Rattle.rules.specs.Receive.{same_bytes, in_table}
+use lib.Pointwise.{pointwise}
+use Rattle.std.specs.Int.{w32, to_le_bytes, from_le_bytes, reverse_bits, reverse_bits_onto}
+use Rattle.std.specs.Bool.{Decides}
+use Rattle.std.specs.List.{list_all}
+use Rattle.std.proofs.lemmas.Bool.Decides.{Decides-eqb, same_from_decides}
+use Rattle.std.proofs.lemmas.Nat.{le_bytes_4, from_le_bytes-to_le_bytes_4}
+use Rattle.std.proofs.lemmas.Slice.Eq.{slice_eq-Decides}
+use Rattle.rules.specs.Bits.{bit}
+use Rattle.rules.specs.Crc.{four_bytes, mirror, crc}
+use Rattle.rules.specs.Receive.{same_bytes, broadcast, in_table}
+use Rattle.remainders.specs.Bounds.{crc_lt}
+use Rattle.remainders.specs.Mirror.{mirror_back}
 use Rattle.sets.specs.Bits.{bit_shr}
 use Rattle.state.specs.View.{word, bytes, registers_in}
 use Rattle.state.specs.Written.{Written, written_out}
 
--- two bytes are those of a word
-abbrev pub Pair : ℕ → ℕ → ℕ → Bool
-Pair low high x = eqb low (x % 256) && eqb high (x / 256)
+-- An address is broadcast where each byte is FFh.
+all_same : (x : ℕ) (l : List ℕ) → same_bytes l (replicate (length l) x) ≡ list_all (λ b. eqb b x) l
+unfolding same_bytes
+all_same x [] = refl
+all_same x (b ∷ l) = ap (λ (t : Bool). eqb b x && t) (all_same x l)
 
-pub pair_word : (low high x : ℕ) → low < 256 → eqb (word_of low high) x ≡ Pair low high x
-unfolding word_of
+pub broadcast_lem : (l : List ℕ) → length l ≡ 6 → broadcast l ≡ list_all (λ b. eqb b 255) l
+unfolding broadcast
+broadcast_lem l n = ap (λ (k : ℕ). same_bytes l (replicate k 255)) (sym n) ∙ all_same 255 l
+
+-- Four bytes are those of a number where the number of the four is it.
+same_bytes_lem : (l m : List ℕ) → same_bytes l m ≡ pointwise eqb l m
+unfolding same_bytes
+same_bytes_lem [] [] = refl
+same_bytes_lem [] (y ∷ ys) = refl
+same_bytes_lem (x ∷ xs) [] = refl
+same_bytes_lem (x ∷ xs) (y ∷ ys) = ap (λ (b : Bool). eqb x y && b) (same_bytes_lem xs ys)
+
+pub four_bytes_lem : (l : List ℕ) (x : ℕ) → length l ≡ 4 → ((i : ℕ) → get_or l i 0 < 256) → x < 2 ^ 32 → same_bytes l (four_bytes x) ≡ eqb (from_le_bytes w32 l) x
+unfolding four_bytes
+four_bytes_lem l x n h k =
+    let same : Decides (same_bytes l (four_bytes x)) (l ≡ to_le_bytes w32 x) = slice_eq-Decides Decides-eqb _ _ _ (same_bytes_lem l (four_bytes x)) in
+    let number : Decides (eqb (from_le_bytes w32 l) x) (from_le_bytes w32 l ≡ x) = Decides-eqb _ _ in
+    same_from_decides _ _ same ((λ e. sym (le_bytes_4 l x n h (sym (number.0 e)))), (λ e. number.1 (ap (from_le_bytes w32) e ∙ from_le_bytes-to_le_bytes_4 x k)))
+
+-- Two bytes are those of a word where the word of the two is it.
+pair_word : (low high x : ℕ) → low < 256 → eqb low (x % 256) && eqb high (x / 256) ≡ eqb (low + high * 256) x
 pair_word low high x h = go (ℕ_discrete low (x % 256)) (ℕ_discrete high (x / 256))
   where
-    go : Dec (low ≡ x % 256) → Dec (high ≡ x / 256) → eqb (low + high * 256) x ≡ Pair low high x
+    go : Dec (low ≡ x % 256) → Dec (high ≡ x / 256) → eqb low (x % 256) && eqb high (x / 256) ≡ eqb (low + high * 256) x
     go (yes a) (yes b) =
         let e : low + high * 256 ≡ x = omega arith in
-        eq-eqb _ _ e ∙ sym (rw (eq-eqb _ _ a, eq-eqb _ _ b) refl)
+        rw (eq-eqb _ _ a, eq-eqb _ _ b, eq-eqb _ _ e) refl
     go (yes a) (no b) =
         let e : low + high * 256 ≡ x → ⊥ = λ n. b (omega arith) in
-        ne_eqb _ _ e ∙ sym (rw (eq-eqb _ _ a, ne_eqb _ _ b) refl)
+        rw (eq-eqb _ _ a, ne_eqb _ _ b, ne_eqb _ _ e) refl
     go (no a) d =
         let e : low + high * 256 ≡ x → ⊥ = λ n. a (omega arith) in
-        ne_eqb _ _ e ∙ sym (rw (ne_eqb _ _ a) refl)
+        rw (ne_eqb _ _ a, ne_eqb _ _ e) refl
 
 -- Six bytes are those of three words where each two are.
 and_twos : (a b c d e f : Bool) → a && (b && (c && (d && (e && (f && true))))) ≡ (a && b) && ((c && d) && (e && f))
@@ -45,34 +68,23 @@ and_twos true true true true false f = refl
 and_twos true true true true true false = refl
 and_twos true true true true true true = refl
 
-pub six_bytes : (l : List ℕ) (x y z : ℕ) → length l ≡ 6
-    → same_bytes l (bytes x (bytes y (bytes z []))) ≡ Pair (get_or l 0 0) (get_or l 1 0) x && (Pair (get_or l 2 0) (get_or l 3 0) y && Pair (get_or l 4 0) (get_or l 5 0) z)
+pub six_bytes : (l : List ℕ) (x y z : ℕ) → length l ≡ 6 → ((i : ℕ) → get_or l i 0 < 256)
+    → same_bytes l (bytes x (bytes y (bytes z []))) ≡ eqb (get_or l 0 0 + get_or l 1 0 * 256) x && (eqb (get_or l 2 0 + get_or l 3 0 * 256) y && eqb (get_or l 4 0 + get_or l 5 0 * 256) z)
 unfolding Written same_bytes
-six_bytes l x y z =
-    written_out 6 (λ (m : List ℕ). same_bytes m (bytes x (bytes y (bytes z []))) ≡ Pair (get_or m 0 0) (get_or m 1 0) x && (Pair (get_or m 2 0) (get_or m 3 0) y && Pair (get_or m 4 0) (get_or m 5 0) z))
-    (λ a b c d e f. and_twos (eqb a (x % 256)) (eqb b (x / 256)) (eqb c (y % 256)) (eqb d (y / 256)) (eqb e (z % 256)) (eqb f (z / 256))) l
+six_bytes l x y z n h =
+    written_out 6 (λ (m : List ℕ). same_bytes m (bytes x (bytes y (bytes z []))) ≡ (eqb (get_or m 0 0) (x % 256) && eqb (get_or m 1 0) (x / 256)) && ((eqb (get_or m 2 0) (y % 256) && eqb (get_or m 3 0) (y / 256)) && (eqb (get_or m 4 0) (z % 256) && eqb (get_or m 5 0) (z / 256))))
+    (λ a b c d e f. and_twos (eqb a (x % 256)) (eqb b (x / 256)) (eqb c (y % 256)) (eqb d (y / 256)) (eqb e (z % 256)) (eqb f (z / 256))) l n
+    ∙ rw (pair_word (get_or l 0 0) (get_or l 1 0) x (h 0), pair_word (get_or l 2 0) (get_or l 3 0) y (h 2), pair_word (get_or l 4 0) (get_or l 5 0) z (h 4)) refl
 
--- Four bytes are those of a number where each two are those of its half.
-and_four : (a b c d : Bool) → a && (b && (c && (d && true))) ≡ (a && b) && (c && d)
-and_four false b c d = refl
-and_four true false c d = refl
-and_four true true false d = refl
-and_four true true true false = refl
-and_four true true true true = refl
+-- The bits that the library puts last first, behind those of a number, are the rules' mirrored ones.
+reversed_onto : (n x a : ℕ) → reverse_bits_onto n x a ≡ a * 2 ^ n + mirror n x
+unfolding mirror reverse_bits_onto
+reversed_onto zero x a = omega arith
+reversed_onto (suc n) x a = reversed_onto n (x / 2) (a * 2 + x % 2) ∙ omega (arith, add-mul (a * 2) (x % 2) (2 ^ n), mul_assoc a 2 (2 ^ n), ap (λ (p : ℕ). a * p) (pow-suc 2 n))
 
-low : (q y : ℕ) → y < 256 → (256 * q + y) % 256 ≡ y
-low q y h = omega arith
-
-pub four_bytes_lem : (l : List ℕ) (x : ℕ) → x < 2 ^ 32 → length l ≡ 4 → same_bytes l (four_bytes x) ≡ Pair (get_or l 0 0) (get_or l 1 0) (x % 65536) && Pair (get_or l 2 0) (get_or l 3 0) (x / 65536)
-unfolding Written same_bytes four_bytes
-four_bytes_lem l x h =
-    let first : x % 65536 % 256 ≡ x % 256 = omega arith in
-    let halves : x / 2 ^ 8 ≡ 256 * (x / 65536) + x % 65536 / 256 = omega arith in
-    let second : x % 65536 / 256 ≡ x / 2 ^ 8 % 256 = sym (rw halves (low (x / 65536) (x % 65536 / 256) (omega arith))) in
-    let high : x / 65536 / 256 ≡ x / 2 ^ 24 = omega arith in
-    let fourth : x / 65536 / 256 ≡ x / 2 ^ 24 % 256 = high ∙ omega arith in
-    written_out 4 (λ (m : List ℕ). same_bytes m (four_bytes x) ≡ Pair (get_or m 0 0) (get_or m 1 0) (x % 65536) && Pair (get_or m 2 0) (get_or m 3 0) (x / 65536))
-    (λ a b c d. rw (first, second, fourth) (and_four (eqb a (x % 256)) (eqb b (x / 2 ^ 8 % 256)) (eqb c (x / 2 ^ 16 % 256)) (eqb d (x / 2 ^ 24 % 256)))) l
+-- So a remainder held mirrored gives its top bits back.
+pub reverse_bits_lem : (l : List ℕ) → reverse_bits w32 (mirror 32 (crc l)) ≡ crc l
+reverse_bits_lem l = omega (arith, reversed_onto 32 (mirror 32 (crc l)) 0, mirror_back 32 (crc l) (crc_lt l))
 
 -- A bit of a byte is a bit of its word.
 bit_of_low : (k x : ℕ) → k < 8 → bit k (x % 256) ≡ bit k x

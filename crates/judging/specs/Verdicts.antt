@@ -1,36 +1,36 @@
 -- What a verdict stands for.
-use Rattle.std.specs.Prelude.{◌≡◌, refl}
+use Rattle.std.specs.Prelude.{◌≡◌, refl, Result, Ok, Err}
 use Rattle.std.proofs.Common.{ap, sym, ◌∙◌}
 use Rattle.rules.specs.Receive.{Arrival, stored, disabled, not_accepted, too_long, bad, no_room}
-use Rattle.judging.specs.declared.Verdict.{Verdict}
-use Rattle.judging.specs.declared.Verdict.TheVariants.{Stored, Disabled, NotAccepted, TooLong, Bad, NoRoom}
+use Rattle.judging.specs.declared.Rejection.{Rejection}
+use Rattle.judging.specs.declared.Rejection.TheVariants.{Disabled, NotAccepted, TooLong, Bad, NoRoom}
 
 -- the arrival of the rules that a verdict is
-abbrev pub arrival_of : Verdict → Arrival
-arrival_of Stored = stored
-arrival_of Disabled = disabled
-arrival_of NotAccepted = not_accepted
-arrival_of TooLong = too_long
-arrival_of Bad = bad
-arrival_of NoRoom = no_room
+abbrev pub arrival_of : Result Unit Rejection → Arrival
+arrival_of (Ok _) = stored
+arrival_of (Err Disabled) = disabled
+arrival_of (Err NotAccepted) = not_accepted
+arrival_of (Err TooLong) = too_long
+arrival_of (Err Bad) = bad
+arrival_of (Err NoRoom) = no_room
 
 -- so a verdict is known from its arrival
-verdict_of : Arrival → Verdict
-verdict_of stored = Stored
-verdict_of disabled = Disabled
-verdict_of not_accepted = NotAccepted
-verdict_of too_long = TooLong
-verdict_of bad = Bad
-verdict_of no_room = NoRoom
+verdict_of : Arrival → Result Unit Rejection
+verdict_of stored = Ok tt
+verdict_of disabled = Err Disabled
+verdict_of not_accepted = Err NotAccepted
+verdict_of too_long = Err TooLong
+verdict_of bad = Err Bad
+verdict_of no_room = Err NoRoom
 
-verdict_back : (v : Verdict) → verdict_of (arrival_of v) ≡ v
+verdict_back : (v : Result Unit Rejection) → verdict_of (arrival_of v) ≡ v
 unfolding verdict_of
-verdict_back Stored = refl
-verdict_back Disabled = refl
-verdict_back NotAccepted = refl
-verdict_back TooLong = refl
-verdict_back Bad = refl
-verdict_back NoRoom = refl
+verdict_back (Ok _) = refl
+verdict_back (Err Disabled) = refl
+verdict_back (Err NotAccepted) = refl
+verdict_back (Err TooLong) = refl
+verdict_back (Err Bad) = refl
+verdict_back (Err NoRoom) = refl
 
-pub verdict_once : (a b : Verdict) → arrival_of a ≡ arrival_of b → a ≡ b
+pub verdict_once : (a b : Result Unit Rejection) → arrival_of a ≡ arrival_of b → a ≡ b
 verdict_once a b e = sym (verdict_back a) ∙ ap verdict_of e ∙ verdict_back b

@@ -1,9 +1,8 @@
 -- What the functions that look at what C lends promise, whatever was lent.
-use Rattle.std.specs.Prelude.{◌≡◌, Bool, cond, List, ◌++◌, ℕ, ◌+◌, ◌*◌, length, drop}
+use Rattle.std.specs.Prelude.{◌≡◌, Bool, cond, List, ◌++◌, ℕ, ◌+◌, ◌*◌, length, drop, Ok}
 use Rattle.rules.specs.Chip.{paged}
 use Rattle.rules.specs.Answers.{Reply}
 use Rattle.rules.specs.Registers.{Width, byte, word}
-use Rattle.state.specs.declared.Answer.TheVariants.{Done}
 use Rattle.state.specs.Entry.{zeros, StartedOf}
 
 -- what a call returns: the answer's number, and 16 bits of value below it
@@ -25,5 +24,5 @@ LongAs k w s q mem = Sized w s q × (length mem ≡ 256 * k)
 
 -- the record of the part with k packets at power-up, beside its zero bytes; what was behind them is there still
 pub record StartsPart (k : ℕ) (mem w' s' q' mem' : List ℕ) : Type 0 where
-  pub state : StartedOf paged k (Done 0) w' s' q'
+  pub state : StartedOf paged k (Ok 0) w' s' q'
   pub memory : mem' ≡ zeros paged k ++ drop (256 * k) mem

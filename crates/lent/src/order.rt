@@ -10,41 +10,26 @@ use state::Part;
 pub fn sized(words: &[u16], sets: &[u32], queues: &[u8]) -> bool
     ensures { Decides result (Sized words.now sets.now queues.now) }
 {
-    if words.len() != 32 {
-        return false;
-    }
-    if sets.len() != 24 {
-        return false;
-    }
-    queues.len() == 72
+    words.len() == 32 && sets.len() == 24 && queues.len() == 72
 }
 
 // The same beside the bytes of a part.
 pub fn long_as(part: Part, words: &[u16], sets: &[u32], queues: &[u8], memory: &[u8]) -> bool
     ensures { Decides result (LongAs (packets_of part) words.now sets.now queues.now memory.now) }
 {
-    if memory.len() != 256 * state::packets_of(part) {
-        return false;
-    }
-    sized(words, sets, queues)
+    memory.len() == 256 * state::packets_of(part) && sized(words, sets, queues)
 }
 
 // A record of a well-formed chip, of either part.
 pub fn ready(words: &[u16], sets: &[u32], queues: &[u8]) -> bool
     ensures { Decides result (Holds words.now sets.now queues.now) }
 {
-    if !sized(words, sets, queues) {
-        return false;
-    }
-    guard::well_formed(words, sets, queues)
+    sized(words, sets, queues) && guard::well_formed(words, sets, queues)
 }
 
 // The same beside 256 bytes for each page of its part.
 pub fn in_order(words: &[u16], sets: &[u32], queues: &[u8], memory: &[u8]) -> bool
     ensures { Decides result (Whole words.now sets.now queues.now memory.now) }
 {
-    if !ready(words, sets, queues) {
-        return false;
-    }
-    memory.len() == 256 * state::size_in(words)
+    ready(words, sets, queues) && memory.len() == 256 * state::size_in(words)
 }

@@ -3,13 +3,13 @@ ghost use Rattle.std.specs.Prelude.{◌≡◌};
 ghost use Rattle.state.specs.Meaning.{reply_of, width_of};
 ghost use Rattle.lent.specs.Lent.{told, wide};
 
-use state::{Answer, Width};
+use state::{Answer, Shown, Width};
 
 // The answer's number, and 16 bits of value below it.
 pub fn told(answer: Answer) -> u32
     ensures { result ≡ told (reply_of answer) }
 {
-    let shown = state::printed(answer);
+    let shown = Shown::from(answer);
     shown.0 as u32 * 65536 + shown.1 as u32
 }
 

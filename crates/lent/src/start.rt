@@ -1,20 +1,9 @@
 // A part at power-up in what was lent.
-ghost use Rattle.std.specs.Prelude.{◌≡◌, ◌*◌, ◌≤◌, length, replicate};
+ghost use Rattle.std.specs.Prelude.{◌*◌, ◌≤◌, length};
 ghost use Rattle.state.specs.Meaning.{packets_of};
 ghost use Rattle.lent.specs.Lent.{Sized, StartsPart};
 
 use state::Part;
-
-// Every byte is 0.
-fn zeroed(bytes: &mut [u8])
-    ensures { bytes.new ≡ replicate (length bytes.old) 0 }
-{
-    let mut k = 0;
-    while k < bytes.len() {
-        bytes[k] = 0;
-        k += 1;
-    }
-}
 
 // A part at power-up, whatever record and memory were before; bytes behind its own stay.
 pub fn started(
@@ -29,5 +18,5 @@ pub fn started(
 {
     let n = 256 * state::packets_of(part);
     chip::powered(words, sets, queues, part);
-    zeroed(&mut memory[..n]);
+    memory[..n].fill(0);
 }

@@ -22,7 +22,7 @@ use Rattle.state.specs.Entry.{size_in, record_view, WholeBy}
 use Rattle.state.specs.Places.{places_told, names_part, record_cut, whole_back, view_back}
 use Rattle.state.specs.Only.{words_of}
 use Rattle.state.proofs.Only as only
-use Rattle.listed.specs.declared.Page.{Page}
+use Rattle.sets.specs.declared.Page.{Page}
 use Rattle.listed.specs.declared.Registers.{Registers}
 use Rattle.listed.specs.Record.{used, row_of, map_of, registers_of, of_part, pool_of, view, rows_cut, one_record}
 use Rattle.listed.specs.Promise.{InOrder}

@@ -1,5 +1,5 @@
 -- The same of every history from power-up of the part with n packets: step by step, since what a step leaves is in order, of the same part, and converts again.
-use Rattle.std.specs.Prelude.{◌≡◌, refl, true, false, ℕ, ◌+◌, ◌*◌, ◌-◌, ◌<◌, length, take, drop, replicate}
+use Rattle.std.specs.Prelude.{◌≡◌, refl, true, false, ℕ, ◌+◌, ◌*◌, ◌-◌, ◌<◌, length, take, drop, replicate, Ok}
 use Rattle.std.proofs.Math.Path.{ap}
 use Rattle.std.proofs.Common.{ap₂, sym, subst, ◌∙◌, inl, inr, arith, take_at, drop_at}
 use mathlib.Core.List.{List, [], ◌∷◌, ◌++◌, map}
@@ -15,9 +15,8 @@ use Rattle.wellformed.specs.Parts.{part_few}
 use Rattle.wellformed.specs.Layouts.{free_total, none_total, none_lists}
 use Rattle.wellformed.specs.Keeps.{powered_fits}
 use Rattle.sets.specs.Members.{set_of}
-use Rattle.state.specs.declared.Answer.TheVariants.{Done}
 use Rattle.state.specs.Entry.{Started, zeros}
-use Rattle.listed.specs.declared.Page.{Page}
+use Rattle.sets.specs.declared.Page.{Page}
 use Rattle.listed.specs.declared.Queue.{Queue}
 use Rattle.listed.specs.Record.{page, packet, used, row_of, map_of, SoundQueue}
 use Rattle.listed.specs.Lists.{map_padded}

@@ -1,5 +1,5 @@
 -- The same of every history from power-up of the part with n packets: step by step, since what a step leaves is in order, of the same part, and converts again.
-use Rattle.std.specs.Prelude.{◌≡◌, refl, true, false, ℕ, ◌+◌, ◌*◌, ◌-◌, ◌<◌, length, take, drop, replicate}
+use Rattle.std.specs.Prelude.{◌≡◌, refl, true, false, ℕ, ◌+◌, ◌*◌, ◌-◌, ◌<◌, length, take, drop, replicate, Ok}
 use Rattle.std.proofs.Math.Path.{ap}
 use Rattle.std.proofs.Common.{ap₂, sym, subst, ◌∙◌, inl, inr, arith, take_at, drop_at}
 use mathlib.Core.List.{List, [], ◌∷◌, ◌++◌, map}
@@ -15,9 +15,8 @@ use Rattle.wellformed.specs.Parts.{part_few}
 use Rattle.wellformed.specs.Layouts.{free_total, none_total, none_lists}
 use Rattle.wellformed.specs.Keeps.{powered_fits}
 use Rattle.sets.specs.Members.{set_of}
-use Rattle.state.specs.declared.Answer.TheVariants.{Done}
 use Rattle.state.specs.Entry.{Started, zeros}
-use Rattle.listed.specs.declared.Page.{Page}
+use Rattle.sets.specs.declared.Page.{Page}
 use Rattle.listed.specs.declared.Queue.{Queue}
 use Rattle.listed.specs.Record.{page, packet, used, row_of, map_of, SoundQueue}
 use Rattle.listed.specs.Lists.{map_padded}
@@ -105,11 +104,11 @@ lent_power_up n = lent_with (word_of n n)
 
 -- what power-up leaves: it is lent no output buffer
 abbrev pub listed_start : ℕ → ListedLeft
-listed_start n = record { stepped = record { answer = Done 0; registers = (listed_power_up n).registers; pages = (listed_power_up n).pages }; memory = zeros paged n; output = [] }
+listed_start n = record { stepped = record { answer = Ok 0; registers = (listed_power_up n).registers; pages = (listed_power_up n).pages }; memory = zeros paged n; output = [] }
 
 abbrev pub lent_start : ℕ → LentLeft
 lent_start n = record {
-  returned = record { answer = Done 0; registers = (lent_power_up n).registers; pages = (lent_power_up n).pages; queues = (lent_power_up n).queues };
+  returned = record { answer = Ok 0; registers = (lent_power_up n).registers; pages = (lent_power_up n).pages; queues = (lent_power_up n).queues };
   memory = zeros paged n;
   output = [];
 }

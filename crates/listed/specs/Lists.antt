@@ -13,7 +13,7 @@ use Rattle.wellformed.specs.Count.{above_least, ascending_distinct}
 use Rattle.sets.specs.Views as sets
 use Rattle.sets.specs.Pages.{pages_ascend, pages_none, member_pages}
 use Rattle.sets.specs.Members.{set_of, set_members, set_small}
-use Rattle.listed.specs.declared.Page.{Page}
+use Rattle.sets.specs.declared.Page.{Page}
 use Rattle.listed.specs.Record.{page, used, row_of, map_of}
 
 -- Lists that ascend and have the same members are the same.

@@ -1,10 +1,10 @@
 -- What a public entry over the record of page lists promised, for any input: document 01's step where the record is in order, else refusal 16. It is the step of the part that the record is (document 02, W9).
-use Rattle.std.specs.Prelude.{◌≡◌, List, ℕ, ◌*◌, length}
+use Rattle.std.specs.Prelude.{◌≡◌, List, ℕ, ◌*◌, length, Err}
 use Rattle.rules.specs.Answers.{Turn}
 use Rattle.rules.specs.Step.{Input, lent, step}
-use Rattle.state.specs.declared.Answer.TheVariants.{Damaged}
+use Rattle.state.specs.declared.Refusal.TheVariants.{Damaged}
 use Rattle.state.specs.Meaning.{reply_of}
-use Rattle.listed.specs.declared.Page.{Page}
+use Rattle.sets.specs.declared.Page.{Page}
 use Rattle.listed.specs.declared.Registers.{Registers}
 use Rattle.listed.specs.declared.Stepped.{Stepped}
 use Rattle.listed.specs.Record.{view, Ready}
@@ -23,7 +23,7 @@ pub record Right (t : Turn) (x : Stepped) (mem out : List ℕ) : Type 0 where
 
 -- refusal 16, and nothing changes
 pub record Broken (r : Registers) (m : List (List Page)) (mem out : List ℕ) (x : Stepped) (mem' out' : List ℕ) : Type 0 where
-  pub same : x ≡ record { answer = Damaged; registers = r; pages = m }
+  pub same : x ≡ record { answer = (Err Damaged); registers = r; pages = m }
   pub memory : mem' ≡ mem
   pub output : out' ≡ out
 

@@ -6,8 +6,8 @@ use Rattle.rules.specs.Parts.{IsPart}
 use Rattle.rules.specs.Chip as rules
 use Rattle.rules.specs.Chip.{paged, Chip, Pool, size}
 use Rattle.rules.specs.WellFormed.{FormedAt}
-use Rattle.listed.specs.declared.Page.{Page}
-use Rattle.listed.specs.declared.Packet.{Packet}
+use Rattle.sets.specs.declared.Page.{Page}
+use Rattle.sets.specs.declared.Packet.{Packet}
 use Rattle.listed.specs.declared.Queue.{Queue}
 use Rattle.listed.specs.declared.Registers.{Registers}
 

@@ -2,13 +2,8 @@
 // and that the lent state describes the same chip. It has places for 24 packets, and says how many its part has (document 02, W9).
 #![tactic(auto)]
 
+pub use sets::{Packet, Page};
 use state::Answer;
-
-#[derive(Drop)]
-pub struct Packet(pub u8);
-
-#[derive(Drop)]
-pub struct Page(pub u8);
 
 // Packet numbers, the head at 0; slots from count on are Packet(0).
 #[derive(Drop)]

@@ -1,5 +1,5 @@
 -- What the proofs of this crate need of the latches, and of registers and TX after a send.
-use mathlib.Core.Path.{◌≡◌, refl, ap, sym, ◌∙◌}
+use mathlib.Core.Path.{◌≡◌, refl, ap, ◌∙◌}
 use mathlib.Core.Bool.{Bool, true, false, cond, not, ◌||◌}
 use mathlib.Core.List.{List, [], ◌∷◌}
 use Prim.Native.Nat.{ℕ, ◌+◌, ◌*◌, ◌^◌, ◌<◌}
@@ -17,11 +17,6 @@ use Rattle.state.specs.Promise.{QueuesIn, Sets, sets_both, sets_as, sets_chip}
 use Rattle.state.specs.Stores.{store_tcr, store_ephsr, store_ecr, store_latches}
 use Rattle.pool.specs.Queues.{Rejoins, rejoins_chip}
 use Rattle.outcomes.specs.Sent.{sent_by, Sent}
-
--- A latch stays where nothing sets it.
-pub or_false : (a : Bool) {b : Bool} → b ≡ false → a ≡ a || b
-or_false true e = refl
-or_false false e = sym e
 
 four_set : (x : ℕ) (b c : Bool) → x ≡ 4 * flag b + 16 * flag c → set_bit 2 x ≡ 4 + 16 * flag c
 unfolding set_bit clear_bit flag

@@ -3,16 +3,19 @@ ghost use Rattle.std.specs.Prelude.{◌≡◌, ◌||◌, ◌≤◌, ◌<◌, eqb
 ghost use Rattle.rules.specs.Bits.{bit};
 ghost use Rattle.state.specs.View.{word, figures, queue_in, Latches, Kept};
 ghost use Rattle.state.specs.Promise.{QueuesIn, Sets};
-ghost use Rattle.outcomes.specs.Numbers.{send_of};
+ghost use Rattle.outcomes.specs.Numbers.{send_of, ending_of};
 ghost use Rattle.outcomes.specs.Sent.{sent_by, Sent};
 
 use crate::Send;
+use crate::event::Ending;
 use crate::nibbles::{any_full, new_ecr, tallied};
 use crate::status::{new_ephsr, new_tcr};
+use pool::Tx;
 use sets::Packet;
 use state::{ECR, EPHSR, LATCHES, TCR, TX_COUNT, flags};
 
 // TX EMPTY is set where the packet that leaves TX is its last; RX_OVRN stays.
+#[tactic(auto, using(crate::proofs::Facts::latch_set, bits::specs::Laws::bit_set, bits::specs::Laws::bit_set_other))]
 fn new_latches(latches: u16, tx: u16) -> u16
     requires { Latches latches }
     ensures latched { Latches result }
@@ -26,13 +29,13 @@ fn new_latches(latches: u16, tx: u16) -> u16
 }
 
 // `address` is the bit of the address's kind.
-fn set_registers(words: &mut [u16], s: Send, good: bool, address: u16)
-    requires { Kept words.old × (s.outcome ≤ 5) × (address ≤ 64) }
-    ensures { Sets (sent_by good (send_of s) address (eqb (word words.old 8) 1)) words.old words.new }
+fn set_registers(words: &mut [u16], ending: Ending, good: bool, address: u16)
+    requires { Kept words.old × (address ≤ 64) }
+    ensures { Sets (sent_by good (ending_of ending) address (eqb (word words.old 8) 1)) words.old words.new }
 {
-    let counts = tallied(good, s, words[ECR]);
+    let counts = tallied(good, ending, words[ECR]);
     let tcr = new_tcr(good, words[TCR]);
-    let ephsr = new_ephsr(good, s, address, words[EPHSR], any_full(counts));
+    let ephsr = new_ephsr(good, ending, address, words[EPHSR], any_full(counts));
     let latches = new_latches(words[LATCHES], words[TX_COUNT]);
     words[TCR] = tcr;
     words[EPHSR] = ephsr;
@@ -46,6 +49,6 @@ pub fn after_send(words: &mut [u16], queues: &mut [u8], s: Send, good: bool, add
     ensures head { result.0 ≡ get_or (queue_in 1 (word words.old 8) queues.old) 0 0 }
     ensures sent { Sent good (send_of s) address words.old queues.old words.new queues.new }
 {
-    set_registers(words, s, good, address);
-    pool::leave_tx(words, queues)
+    set_registers(words, Ending::of(s), good, address);
+    pool::leave::<Tx>(words, queues)
 }

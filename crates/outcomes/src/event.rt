@@ -1,53 +1,87 @@
 // How a send ended: is the input within its limits, and was the send good?
-ghost use Rattle.std.specs.Prelude.{◌≡◌};
+ghost use Rattle.std.specs.Prelude.{◌≡◌, ◌≤◌, ◌<◌, MatchResult};
 ghost use Rattle.rules.specs.Send.{in_limits, good};
-ghost use Rattle.outcomes.specs.Numbers.{send_of};
+ghost use Rattle.outcomes.specs.Numbers.{send_of, number_of, ending_of};
 
 use crate::Send;
 use state::flags;
 
-// The outcomes, as the input numbers them.
-const GOOD: u8 = 0;
+// The outcomes, in the order in which the input numbers them.
+#[derive(Clone, Copy, PartialEq, Eq)]
+pub enum Outcome {
+    Good,
+    SixteenCollisions,
+    LateCollision,
+    LostCarrier,
+    SqeMissing,
+    Underrun,
+}
 
-pub const SIXTEEN_COLLISIONS: u8 = 1;
+impl TryFrom<u8> for Outcome {
+    type Error = ();
 
-pub const LATE_COLLISION: u8 = 2;
+    ghost try_from_gives = { λ n r. MatchResult r (λ o. number_of o ≡ n) (λ _. 5 < n) };
 
-pub const LOST_CARRIER: u8 = 3;
+    fn try_from(number: u8) -> Result<Outcome, ()> {
+        match number {
+            0 => Ok(Outcome::Good),
+            1 => Ok(Outcome::SixteenCollisions),
+            2 => Ok(Outcome::LateCollision),
+            3 => Ok(Outcome::LostCarrier),
+            4 => Ok(Outcome::SqeMissing),
+            5 => Ok(Outcome::Underrun),
+            _ => Err(()),
+        }
+    }
+}
 
-pub const SQE_MISSING: u8 = 4;
+// How a send ended, where its outcome is one of the six; its deferral is any number, since `after_send` asks nothing of it.
+#[derive(Clone, Copy)]
+pub struct Ending {
+    pub outcome: Outcome,
+    pub collisions: u8,
+    pub deferral: u8,
+}
 
-pub const UNDERRUN: u8 = 5;
+impl Ending {
+    pub fn of(s: Send) -> Ending
+        requires { s.outcome ≤ 5 }
+        ensures { ending_of result ≡ send_of s }
+    {
+        Ending {
+            outcome: Outcome::try_from(s.outcome).unwrap(),
+            collisions: s.collisions,
+            deferral: s.deferral,
+        }
+    }
+}
 
 // Refusal 11 where not. Sixteen collisions are that outcome, and no other.
+#[tactic(auto, unfolding(rules::specs::Send::in_limits))]
 pub fn is_within(s: Send) -> bool
     ensures { result ≡ in_limits (send_of s) }
 {
-    if s.outcome > UNDERRUN {
-        return false;
-    }
     if s.deferral > 2 {
         return false;
     }
-    if s.outcome == SIXTEEN_COLLISIONS {
-        return s.collisions == 16;
+    match Outcome::try_from(s.outcome) {
+        Ok(Outcome::SixteenCollisions) => s.collisions == 16,
+        Ok(_) => s.collisions <= 15,
+        Err(()) => false,
     }
-    s.collisions <= 15
 }
 
 // Lost carrier is good unless MON_CSN is set and FDSE clear; a missing SQE is good unless STP_SQET is set.
+#[tactic(auto, unfolding(rules::specs::Send::good))]
 pub fn is_good(tcr: u16, outcome: u8) -> bool
     ensures { result ≡ good tcr outcome }
 {
-    match outcome {
-        GOOD => true,
-        LOST_CARRIER => {
-            if !bits::is_set(tcr, flags::MON_CSN) {
-                return true;
-            }
-            bits::is_set(tcr, flags::FDSE)
+    match Outcome::try_from(outcome) {
+        Ok(Outcome::Good) => true,
+        Ok(Outcome::LostCarrier) => {
+            !bits::is_set(tcr, flags::MON_CSN) || bits::is_set(tcr, flags::FDSE)
         }
-        SQE_MISSING => !bits::is_set(tcr, flags::STP_SQET),
+        Ok(Outcome::SqeMissing) => !bits::is_set(tcr, flags::STP_SQET),
         _ => false,
     }
 }

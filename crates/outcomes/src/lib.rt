@@ -11,7 +11,7 @@ pub use after::after_send;
 pub use completion::{is_full, is_released, retire};
 pub use event::{is_good, is_within};
 
-// How a send ended, as its input says; `send_of` gives the rules' record of it.
+// How a send ended, as its input says; `send_of` gives the rules' record of it. Bytes, since `is_within` and `is_good` answer for any number.
 #[derive(Clone, Copy)]
 pub struct Send {
     pub outcome: u8,

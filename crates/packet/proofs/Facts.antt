@@ -1,6 +1,6 @@
 -- What the proofs of this crate, and of those above it, need of `Room`, of the pages that are left in a walk, and of the image of a frame.
 use mathlib.Core.Path.{◌≡◌, refl, ap, ap₂, sym, subst, ◌∙◌}
-use mathlib.Core.Bool.{true}
+use mathlib.Core.Bool.{true, false}
 use mathlib.Core.List.{List, [], ◌∷◌, ◌++◌}
 use Prim.Native.Nat.{ℕ, zero, suc, ◌+◌, ◌-◌, ◌*◌, ◌/◌, ◌%◌, ◌^◌, ◌≤◌, ◌<◌}
 use native.Mathlib.Nat.{add-suc}
@@ -9,10 +9,12 @@ use lib.Count.{ones-le}
 use lib.ListN.{length, take, drop, get_or, set, length-drop}
 use lib.Seq.{get_or-drop, length-take-le}
 use Rattle.rules.specs.Lists.{member}
-use Rattle.rules.specs.Bits.{low_byte, high_byte, word_of}
+use Rattle.std.proofs.lemmas.Bool.{eqb-false}
+use Rattle.rules.specs.Bits.{bit, low_byte, high_byte, word_of}
 use Rattle.rules.specs.Data.{value_of}
 use Rattle.rules.specs.Packet.{place, get_bytes, put_bytes}
 use Rattle.rules.specs.Receive.{Frame, count_of, trailer, frame_status, image}
+use Rattle.bits.specs.Laws.{bit_zero}
 use Rattle.lists.specs.Bytes.{Below, put_append, length_put, value_one, value_two}
 use Rattle.lists.specs.Facts.{member_later}
 use Rattle.sets.specs.Views.{pages_of}
@@ -78,6 +80,10 @@ module _ {end : ℕ} {pages : ℕ} {memory : List ℕ} (h : Room end pages memor
     within = omega (arith, h.within, rest_length (pages_of pages) (pages_of rest) (a / 256) e);
   }
 
+-- an even number, by its bit 0
+pub even_end : (n : ℕ) → false ≡ bit 0 n → n % 2 ≡ 0
+even_end n e = omega (arith, eqb-false (n % 2) 1 (sym (e ∙ bit_zero n)))
+
 -- Addresses counted from the page k of the packet on.
 place_on : (k a : ℕ) (pages : List ℕ) → place (drop k pages) a ≡ place pages (256 * k + a)
 unfolding place
@@ -105,9 +111,6 @@ put_on_page (x ∷ xs) k a pages m =
 module _ (a : ℕ) (rest pages : List ℕ) (e : rest ≡ drop (a / 256) pages) where
   whole_address : 256 * (a / 256) + a % 256 ≡ a
   whole_address = omega arith
-
-  pub place_rest : place rest (a % 256) ≡ place pages a
-  place_rest = ap (λ (l : List ℕ). place l (a % 256)) e ∙ place_on (a / 256) (a % 256) pages ∙ ap (place pages) whole_address
 
   pub get_rest : (n : ℕ) (m : List ℕ) → get_bytes n (a % 256) rest m ≡ get_bytes n a pages m
   get_rest n m =

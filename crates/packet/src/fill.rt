@@ -1,5 +1,5 @@
 // Runs of bytes into a page of a packet, and out of its pages.
-ghost use Rattle.std.specs.Prelude.{◌≡◌, ◌+◌, ◌%◌, ◌≤◌, min, length};
+ghost use Rattle.std.specs.Prelude.{◌≡◌, ◌+◌, ◌%◌, ◌≤◌, length};
 ghost use Rattle.rules.specs.Answers.{over};
 ghost use Rattle.rules.specs.Packet.{get_bytes, put_bytes};
 ghost use Rattle.sets.specs.Views.{pages_of};
@@ -8,23 +8,14 @@ ghost use Rattle.packet.specs.Room.{Room};
 use crate::access::place_in;
 use sets::Address;
 
-// The smaller of the two.
-pub fn least(a: usize, b: usize) -> usize
-    ensures { result ≡ min a b }
-{
-    if a < b { a } else { b }
-}
-
-// Writes the bytes over the front of the part that it is lent, and leaves the rest of it. The compiler makes a `memcpy` or
-// vector moves of the loop, with no test of an index, also where it stands inlined in `store_frame` and `copy_out`.
+// Writes the bytes over the front of the part that it is lent, and leaves the rest of it. The compiler makes vector moves of the loop, with no test of an index, also
+// where it stands inlined in `store_frame` and `copy_out`; `copy_from_slice` needs `memmove` of who links the library for C, which may need `memcpy` and `memset`.
 pub fn fill_part(part: &mut [u8], bytes: &[u8])
     requires { length bytes.now ≤ length part.old }
     ensures { part.new ≡ over bytes.now part.old }
 {
-    let mut i = 0;
-    while i < bytes.len() {
-        part[i] = bytes[i];
-        i += 1;
+    for (i, byte) in bytes.iter().enumerate() {
+        part[i] = *byte;
     }
 }
 
@@ -48,19 +39,17 @@ pub fn copy_page(memory: &[u8], rest: u32, at: Address, out: &mut [u8])
     fill_part(out, &memory[start..end]);
 }
 
-// The packet's data, from address 4 on, over the front of the buffer.
+// The packet's data, from address 4 on, over the front of the buffer: 252 bytes of it are in the first page, and 256 in each after it. By index, since after
+// `chunks_mut` a proof knows the buffer's length alone.
 pub fn copy_out(memory: &[u8], pages: u32, len: usize, out: &mut [u8])
     requires { (len ≤ length out.old) × Room (len + 4) pages memory.now }
     ensures { out.new ≡ over (get_bytes len 4 (pages_of pages) memory.now) out.old }
 {
+    copy_page(memory, pages, Address(4), &mut out[..len.min(252)]);
     let mut rest = pages;
-    let mut at = 4;
-    while at < len + 4 {
-        let next = (at / 256 + 1) * 256;
-        let from = at - 4;
-        let to = least(len, next - 4);
-        copy_page(memory, rest, Address(at as u16), &mut out[from..to]);
+    for from in (252..len).step_by(256) {
+        let n = (len - from).min(256);
         rest = sets::without(rest, 1);
-        at = next;
+        copy_page(memory, rest, Address(0), &mut out[from..from + n]);
     }
 }

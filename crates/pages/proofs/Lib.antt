@@ -1,2 +1,2 @@
 -- Proofs that belong to no one function.
-pub mod Paged
+pub mod Granting

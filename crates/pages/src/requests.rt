@@ -1,15 +1,15 @@
-// Allocations: one that is granted, one that waits, and pages given back, of which the one that waits gets its own.
-ghost use Rattle.std.specs.Prelude.{map, ◌≤◌, ◌<◌, length};
-ghost use Rattle.rules.specs.Chip.{paged, free_for};
+// Allocations, of either layout: one that is granted, one that waits, and pages given back, of which the one that waits gets its own.
+ghost use Rattle.std.specs.Prelude.{◌≤◌, ◌<◌, length};
+ghost use Rattle.rules.specs.Chip.{free_for};
 ghost use Rattle.rules.specs.Fields.{set_result, set_waiting};
 ghost use Rattle.rules.specs.Mmu as rules;
-ghost use Rattle.rules.specs.WellFormed.{GoodPages};
-ghost use Rattle.sets.specs.Views.{pages_of};
-ghost use Rattle.state.specs.View.{word, figures, Kept};
-ghost use Rattle.state.specs.Promise.{Sets, SetsIn};
-ghost use Rattle.pages.specs.Pages.{Alters};
+ghost use Rattle.wellformed.specs.Layouts.{GoodLists};
+ghost use Rattle.state.specs.View.{word, figures, lists_of, Kept};
+ghost use Rattle.state.specs.Promise.{Sets, PagesIn};
+ghost use Rattle.pages.specs.Pages.{AltersOf};
 
-use crate::pages::{free_count, grant, make_free};
+use crate::layout::Layout;
+use crate::pages::free_count;
 use sets::Packet;
 use state::{PACKET, WAITING};
 
@@ -22,20 +22,21 @@ pub fn give_result(words: &mut [u16], res: u8, waiting: u16)
     words[WAITING] = waiting;
 }
 
-// An allocation is granted: the lowest unallocated number gets the lowest free pages, the result reads it, and none waits.
-pub fn allocate(words: &mut [u16], sets: &mut [u32], need: u32)
-    requires { Kept words.old × SetsIn (figures words.old) sets.old × GoodPages (length sets.old) (map pages_of sets.old) × (1 ≤ need) × (need ≤ 8) × (need ≤ length (free_for paged (map pages_of sets.old))) }
-    ensures { Alters (rules.grant need) words.old sets.old words.new sets.new }
+// An allocation is granted: the lowest unallocated number gets the pages, the result reads it, and none waits.
+pub fn allocate<L: Layout>(words: &mut [u16], sets: &mut [u32], need: u32)
+    requires { Kept words.old × PagesIn L.layout (figures words.old) sets.old × GoodLists L.layout (length sets.old) (lists_of L.layout sets.old) × (1 ≤ need) × (need ≤ 8) × (need ≤ length (free_for L.layout (lists_of L.layout sets.old))) }
+    ensures { AltersOf L.layout (rules.grant need) words.old sets.old words.new sets.new }
 {
-    let number = sets::lowest_unallocated(sets) as u8;
-    grant(words, sets, Packet(number), need);
-    give_result(words, number, 0);
+    let packet = L::lowest_unallocated(sets);
+    L::grant(words, sets, packet, need);
+    give_result(words, packet.0, 0);
 }
 
 // An allocation that waits is granted where as many pages are free.
-fn settle(words: &mut [u16], sets: &mut [u32])
-    requires { Kept words.old × SetsIn (figures words.old) sets.old × GoodPages (length sets.old) (map pages_of sets.old) × (word words.old 23 ≤ 8) }
-    ensures { Alters rules.settle words.old sets.old words.new sets.new }
+#[tactic(auto, using(crate::proofs::Granting::none_waits))]
+fn settle<L: Layout>(words: &mut [u16], sets: &mut [u32])
+    requires { Kept words.old × PagesIn L.layout (figures words.old) sets.old × GoodLists L.layout (length sets.old) (lists_of L.layout sets.old) × (word words.old 23 ≤ 8) }
+    ensures { AltersOf L.layout rules.settle words.old sets.old words.new sets.new }
 {
     let need = words[WAITING] as u32;
     if need == 0 {
@@ -44,14 +45,14 @@ fn settle(words: &mut [u16], sets: &mut [u32])
     if free_count(words) < need {
         return;
     }
-    allocate(words, sets, need);
+    allocate::<L>(words, sets, need);
 }
 
 // The packet's pages are given back.
-pub fn give_back(words: &mut [u16], sets: &mut [u32], packet: Packet)
-    requires { Kept words.old × SetsIn (figures words.old) sets.old × GoodPages (length sets.old) (map pages_of sets.old) × (packet.0 < length sets.old) × (word words.old 23 ≤ 8) }
-    ensures { Alters (rules.give_back packet.0) words.old sets.old words.new sets.new }
+pub fn give_back<L: Layout>(words: &mut [u16], sets: &mut [u32], packet: Packet)
+    requires { Kept words.old × PagesIn L.layout (figures words.old) sets.old × GoodLists L.layout (length sets.old) (lists_of L.layout sets.old) × (packet.0 < length sets.old) × (word words.old 23 ≤ 8) }
+    ensures { AltersOf L.layout (rules.give_back packet.0) words.old sets.old words.new sets.new }
 {
-    make_free(words, sets, packet);
-    settle(words, sets);
+    L::make_free(words, sets, packet);
+    settle::<L>(words, sets);
 }

@@ -1,4 +1,5 @@
 -- Changes of the queues, and the pool emptied.
 pub mod Queues
+pub mod Fifos
 pub mod Figures
 pub mod Once

@@ -1,43 +1,60 @@
-// The figures that the words keep: of RX and of TX how many entries and which packets they are, and all of them where there are none.
-ghost use Rattle.std.specs.Prelude.{◌≡◌, ◌/◌, ◌%◌, length};
-ghost use Rattle.state.specs.View.{figures, rx_bits, tx_bits, with_rx, with_tx, no_figures, Kept};
+// The figures that the words keep: which packets a queue has, and all of them where there are none.
+ghost use Rattle.std.specs.Prelude.{◌≡◌, ◌+◌, ◌-◌, ◌^◌, ◌<◌, ◌≤◌, IfSome, length};
+ghost use Rattle.state.specs.View.{no_figures, Kept};
 ghost use Rattle.state.specs.Stores.{Recounts};
+ghost use Rattle.pool.specs.Fifos.{bits_at, with_bits, bits_by};
 
+use crate::Fifo;
 use queues::marks;
+use sets::Packet;
 use state::{COMPLETION_COUNT, IN_RX, IN_RX_HIGH, IN_TX, IN_TX_HIGH, MIR, RX_COUNT, TX_COUNT};
 
-// The packets in RX.
-pub fn rx_bits(words: &[u16]) -> u32
-    requires { length words.now ≡ 32 }
-    ensures { result ≡ rx_bits words.now }
+// The bits in two words, the lower 16 in the first.
+pub fn bits(words: &[u16], low: usize) -> u32
+    requires { low + 1 < length words.now }
+    ensures { result ≡ bits_at low words.now }
 {
-    marks::joined(words[IN_RX], words[IN_RX_HIGH])
+    marks::joined(words[low], words[low + 1])
 }
 
-// The packets in TX.
-pub fn tx_bits(words: &[u16]) -> u32
-    requires { length words.now ≡ 32 }
-    ensures { result ≡ tx_bits words.now }
+fn store_bits(words: &mut [u16], low: usize, bits: u32)
+    requires { low + 1 < length words.old }
+    ensures { words.new ≡ with_bits low bits words.old }
 {
-    marks::joined(words[IN_TX], words[IN_TX_HIGH])
+    words[low] = marks::low_half(bits);
+    words[low + 1] = marks::high_half(bits);
 }
 
-pub fn store_rx(words: &mut [u16], count: u16, bits: u32)
-    requires { Kept words.old }
-    ensures { Recounts (with_rx count (bits % 65536) (bits / 65536) (figures words.old)) words.old words.new }
+// The packet's bit, which is clear, is set, where the queue's bits are kept.
+pub fn set_bit<Q: Fifo>(words: &mut [u16], packet: Packet)
+    requires { (length words.old ≡ 32) × IfSome Q.BITS (λ low. bits_at low words.old + 2 ^ packet.0 < 2 ^ 32) }
+    ensures { words.new ≡ bits_by Q.BITS (λ x. x + 2 ^ packet.0) words.old }
 {
-    words[RX_COUNT] = count;
-    words[IN_RX] = marks::low_half(bits);
-    words[IN_RX_HIGH] = marks::high_half(bits);
+    if let Some(low) = Q::BITS {
+        let before = bits(words, low);
+        store_bits(words, low, marks::with(before, packet));
+    }
 }
 
-pub fn store_tx(words: &mut [u16], count: u16, bits: u32)
-    requires { Kept words.old }
-    ensures { Recounts (with_tx count (bits % 65536) (bits / 65536) (figures words.old)) words.old words.new }
+// The packet's bit, which is set, is cleared.
+pub fn clear_bit<Q: Fifo>(words: &mut [u16], packet: Packet)
+    requires { (length words.old ≡ 32) × IfSome Q.BITS (λ low. 2 ^ packet.0 ≤ bits_at low words.old) }
+    ensures { words.new ≡ bits_by Q.BITS (λ x. x - 2 ^ packet.0) words.old }
 {
-    words[TX_COUNT] = count;
-    words[IN_TX] = marks::low_half(bits);
-    words[IN_TX_HIGH] = marks::high_half(bits);
+    if let Some(low) = Q::BITS {
+        let before = bits(words, low);
+        store_bits(words, low, marks::without(before, packet));
+    }
+}
+
+// No bit is set.
+pub fn clear_all<Q: Fifo>(words: &mut [u16])
+    requires { length words.old ≡ 32 }
+    ensures { words.new ≡ bits_by Q.BITS (λ x. 0) words.old }
+{
+    if let Some(low) = Q::BITS {
+        store_bits(words, low, 0);
+    }
 }
 
 // No packet of so many has pages, and no queue has entries.

@@ -1,8 +1,6 @@
 -- A power of two that is below another has the smaller exponent.
-use Prim.Native.Nat.{ℕ, ◌^◌, ◌≤◌, ◌<◌}
-use native.Mathlib.Omega.{arith}
-use native.Mathlib.Decide.{dec_le}
-use lib.Pow.{pow_mono}
+use Rattle.std.proofs.Common.{ℕ, ◌^◌, ◌≤◌, ◌<◌, arith, pow_mono}
+use Rattle.std.proofs.Math.Decide.{dec_le}
 
 pub smaller : (k n : ℕ) → 2 ^ k < 2 ^ n → k < n
 smaller k n h = go (dec_le n k)

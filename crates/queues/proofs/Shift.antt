@@ -1,11 +1,7 @@
 -- Slots of a queue whose entries are moved up by one.
-use mathlib.Core.Path.{◌≡◌, ap, sym, ◌∙◌}
-use mathlib.Core.List.{List, ◌∷◌, ◌++◌}
-use Prim.Native.Nat.{ℕ, suc, ◌+◌, ◌-◌, ◌<◌}
-use native.Mathlib.Numerals.{add-one}
-use native.Mathlib.Omega.{arith}
-use lib.ListN.{length, take, drop, get_or, set, length-drop}
-use lib.Seq.{drop-cons, drop-set-lt, set_at, set_split, take-suc, append_snoc, length-take-le, get_or-append-add, get_or-drop}
+use Rattle.std.proofs.Common.{◌≡◌, ℕ, suc, ◌+◌, ◌-◌, ◌<◌, List, ◌∷◌, ◌++◌, length, take, drop, get_or, set, ap, sym, ◌∙◌, add-one, arith, length-drop, length-take-le, drop-cons, get_or-drop}
+use Rattle.std.proofs.lemmas.List.{set_at}
+use Rattle.std.proofs.Math.Seq.{take-suc, append_snoc, get_or-append-add}
 
 -- i entries have moved up
 unfoldable pub moved : List ℕ → ℕ → List ℕ
@@ -36,7 +32,3 @@ last_cleared old s k h e =
     let d = drop 1 old in
     let short : length (take k d) ≡ k = length-take-le k d (omega (arith, length-drop 1 old)) in
     ap (λ (t : List ℕ). set t k 0) (e ∙ ap (λ (t : List ℕ). take k d ++ t) (drop-cons old k 0 h)) ∙ set_at (take k d) (get_or old k 0) (drop (suc k) old) 0 k short
-
--- with a 0 in the first place none has moved
-pub none_moved : (old : List ℕ) → 0 < length old → set old 0 0 ≡ 0 ∷ drop 1 (set old 0 0)
-none_moved old h = set_split old 0 0 h ∙ ap (λ (t : List ℕ). 0 ∷ t) (sym (drop-set-lt 1 old 0 0 (omega arith)))

@@ -1,4 +1,5 @@
-// Queues of packet numbers in a lent part of bytes, the head first; bytes behind the last entry are 0. The count is kept beside them.
+// Queues of packet numbers in a lent part of bytes, the head first; bytes behind the last entry are 0. The count is a word of another lent part, as C lends both
+// (include/skarvoya.h), and so is passed beside them.
 // Each contract says what becomes of the bytes; `specs/Parts` what that is of the entries.
 #![tactic(auto)]
 
@@ -31,21 +32,17 @@ pub fn pop(slots: &mut [u8], count: u16)
 {
     let last = count as usize - 1;
     slots[0] = 0;
-    let mut i = 0;
-    while i < last {
+    for i in 0..last {
         slots[i] = slots[i + 1];
         slots[i + 1] = 0;
-        i += 1;
     }
 }
 
-// No entry is left.
+// No entry is left. (`fill` stores the last byte apart: where the length is not known that takes a frame of its own, and a reset's stack is deeper.)
 pub fn empty(slots: &mut [u8])
     ensures { slots.new ≡ replicate (length slots.old) 0 }
 {
-    let mut i = 0;
-    while i < slots.len() {
-        slots[i] = 0;
-        i += 1;
+    for slot in slots.iter_mut() {
+        *slot = 0;
     }
 }

@@ -1,4 +1,5 @@
 -- What the proofs of an aborted frame share.
+use Rattle.std.specs.Prelude.{Ok}
 use mathlib.Core.Path.{◌≡◌, refl, ap, ap₂, sym, ◌∙◌}
 use mathlib.Core.Bool.{Bool, true, false}
 use mathlib.Core.List.{List}
@@ -11,15 +12,18 @@ use Rattle.rules.specs.Fields.{set_rcr, set_tx_empty, set_overrun, in_registers}
 use Rattle.rules.specs.Answers.{Effect, done_with}
 use Rattle.rules.specs.Receive.{abort}
 use Rattle.bits.specs.Laws.{bit_set, bit_set_other}
-use Rattle.state.specs.declared.Answer.{Answer}
-use Rattle.state.specs.declared.Answer.TheVariants.{Done}
+use Rattle.state.specs.Meaning.{Answer}
 use Rattle.state.specs.View.{word, registers_in, Latches, Kept}
 use Rattle.state.specs.Promise.{Sets, sets_as, sets_chip, Does}
 use Rattle.state.specs.Stores.{store_rcr, store_latches}
 
 -- A change of the registers is a step that answers v; and it may come before a step.
-pub does_with : {f : Registers → Registers} {w w' : List ℕ} → (v : ℕ) → Sets f w w' → Does (λ c. done_with v (in_registers f c)) w (Done v) w'
+pub does_with : {f : Registers → Registers} {w w' : List ℕ} → (v : ℕ) → Sets f w w' → Does (λ c. done_with v (in_registers f c)) w (Ok v) w'
 does_with v a = record { step = λ l s q mem. ap (done_with v) (sets_chip a l s q mem); still = a.still; kept = a.kept }
+
+-- The answer may be all that there is of it.
+pub stays : (k : ℕ) {w : List ℕ} → Kept w → Does (λ c. done_with k c) w (Ok k) w
+stays k h = record { step = λ l s q mem. refl; still = refl; kept = h }
 
 pub does_after : {f : Chip → Effect} {g : Registers → Registers} {w w' w'' : List ℕ} {a : Answer} → Sets g w w' → Does f w' a w'' → Does (λ c. f (in_registers g c)) w a w''
 does_after {f} a d = record { step = λ l s q mem. d.step l s q mem ∙ ap f (sets_chip a l s q mem); still = d.still ∙ a.still; kept = d.kept }

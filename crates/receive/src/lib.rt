@@ -3,32 +3,20 @@
 
 mod stow; // stow.rt: a frame that is stored
 
-ghost use Rattle.std.specs.Prelude.{◌≡◌, true, false, ◌*◌, length};
+ghost use Rattle.std.specs.Prelude.{◌≡◌, true, ◌*◌, length};
 ghost use Rattle.rules.specs.Answers.{done_with};
+ghost use Rattle.rules.specs.Chip.{page_numbers};
 ghost use Rattle.rules.specs.Fields.{set_overrun, in_registers};
 ghost use Rattle.rules.specs.Receive.{abort, arrive};
-ghost use Rattle.state.specs.View.{view, Kept};
-ghost use Rattle.state.specs.Promise.{Ready, Does, Makes};
+ghost use Rattle.state.specs.View.{view_of, Kept};
+ghost use Rattle.state.specs.Promise.{ReadyOf, Does, MakesOf};
 ghost use Rattle.judging.specs.Frames.{frame_of};
 ghost use Rattle.judging.specs.Verdicts.{arrival_of};
-ghost use Rattle.receive.specs.Arrivals.{is_stored, turned_away};
+ghost use Rattle.receive.specs.Arrivals.{turned_away};
 
-use judging::{Verdict, judged};
-use state::{Answer, LATCHES, RCR, flags};
-
-// Is the frame stored?
-pub fn is_stored(verdict: Verdict) -> bool
-    ensures { result ≡ is_stored (arrival_of verdict) }
-{
-    match verdict {
-        Verdict::Stored => true,
-        Verdict::Disabled => false,
-        Verdict::NotAccepted => false,
-        Verdict::TooLong => false,
-        Verdict::Bad => false,
-        Verdict::NoRoom => false,
-    }
-}
+use judging::{Rejection, judged};
+use state::{Answer, LATCHES, RCR, Refusal, flags};
+use stores::Store;
 
 // The frame is not stored, and RX_ABORT says so.
 fn aborted(words: &mut [u16], value: u16) -> Answer
@@ -36,7 +24,7 @@ fn aborted(words: &mut [u16], value: u16) -> Answer
     ensures { Does (λ c. done_with value (in_registers abort c)) words.old result words.new }
 {
     words[RCR] = bits::with_set(words[RCR], flags::RX_ABORT);
-    Answer::Done(value)
+    Ok(value)
 }
 
 // And for want of room, RX_OVRN.
@@ -49,23 +37,22 @@ fn overrun(words: &mut [u16], value: u16) -> Answer
 }
 
 // A frame that is not stored: the answer's value says why, and of 3 and 5 the registers too.
-pub fn turned_away(words: &mut [u16], verdict: Verdict) -> Answer
-    requires { Kept words.old × (is_stored (arrival_of verdict) ≡ false) }
-    ensures { Does (turned_away (arrival_of verdict)) words.old result words.new }
+#[tactic(auto, using(crate::proofs::Facts::stays), unfolding(rules::specs::Receive::value_for, rules::specs::Receive::after))]
+fn turned_away(words: &mut [u16], rejection: Rejection) -> Answer
+    requires { Kept words.old }
+    ensures { Does (turned_away (arrival_of (Err rejection))) words.old result words.new }
 {
-    match verdict {
-        // not here
-        Verdict::Stored => Answer::Done(0),
-        Verdict::Disabled => Answer::Done(1),
-        Verdict::NotAccepted => Answer::Done(2),
-        Verdict::TooLong => aborted(words, 3),
-        Verdict::Bad => Answer::Done(4),
-        Verdict::NoRoom => overrun(words, 5),
+    match rejection {
+        Rejection::Disabled => Ok(1),
+        Rejection::NotAccepted => Ok(2),
+        Rejection::TooLong => aborted(words, 3),
+        Rejection::Bad => Ok(4),
+        Rejection::NoRoom => overrun(words, 5),
     }
 }
 
 // A frame arrives at a chip that is well formed: its bytes with FCS, and the flag alignment.
-pub fn arrived(
+pub fn arrived<L: Store>(
     words: &mut [u16],
     sets: &mut [u32],
     queues: &mut [u8],
@@ -73,15 +60,14 @@ pub fn arrived(
     frame: &[u8],
     alignment: bool,
 ) -> Answer
-    requires { Ready words.old sets.old queues.old × (length memory.old ≡ 256 * length sets.old) }
-    ensures { Makes (arrive (frame_of frame.now alignment) (view words.old sets.old queues.old memory.old)) result words.new sets.new queues.new memory.new }
+    requires { ReadyOf L.layout words.old sets.old queues.old × (length memory.old ≡ 256 * page_numbers L.layout (length sets.old)) }
+    ensures { MakesOf L.layout (arrive (frame_of frame.now alignment) (view_of L.layout words.old sets.old queues.old memory.old)) result words.new sets.new queues.new memory.new }
 {
     if frame.len() < 18 {
-        return Answer::OutsideLimits;
+        return Err(Refusal::OutsideLimits);
     }
-    let verdict = judged(words, frame, alignment);
-    if !is_stored(verdict) {
-        return turned_away(words, verdict);
+    if let Err(rejection) = judged(words, frame, alignment) {
+        return turned_away(words, rejection);
     }
-    stow::stowed(words, sets, queues, memory, frame, alignment)
+    stow::stowed::<L>(words, sets, queues, memory, frame, alignment)
 }

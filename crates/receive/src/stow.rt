@@ -1,18 +1,20 @@
 // A frame that is stored.
 ghost use Rattle.std.specs.Prelude.{◌≡◌, ◌*◌, length};
 ghost use Rattle.rules.specs.Answers.{done_with};
+ghost use Rattle.rules.specs.Chip.{page_numbers};
 ghost use Rattle.rules.specs.Receive.{stow};
-ghost use Rattle.state.specs.View.{view};
-ghost use Rattle.state.specs.Promise.{Makes};
+ghost use Rattle.state.specs.View.{view_of};
+ghost use Rattle.state.specs.Promise.{MakesOf};
 ghost use Rattle.judging.specs.Frames.{frame_of};
-ghost use Rattle.receive.specs.Arrivals.{Stowable};
+ghost use Rattle.receive.specs.Arrivals.{StowableOf};
 
 use judging::{count_of, data_length, pages_for, status_of};
-use sets::Packet;
+use pool::Rx;
 use state::{Answer, CONTROL, RCR};
+use stores::Store;
 
-// It takes the lowest unallocated number and the lowest free pages; the number goes to the end of RX.
-pub fn stowed(
+// It takes the lowest unallocated number and as many pages as it needs; the number goes to the end of RX.
+pub fn stowed<L: Store>(
     words: &mut [u16],
     sets: &mut [u32],
     queues: &mut [u8],
@@ -20,14 +22,15 @@ pub fn stowed(
     frame: &[u8],
     alignment: bool,
 ) -> Answer
-    requires { Stowable words.old sets.old queues.old (frame_of frame.now alignment) × (length memory.old ≡ 256 * length sets.old) }
-    ensures { Makes (done_with 0 (stow (frame_of frame.now alignment) (view words.old sets.old queues.old memory.old))) result words.new sets.new queues.new memory.new }
+    requires { StowableOf L.layout words.old sets.old queues.old (frame_of frame.now alignment) × (length memory.old ≡ 256 * page_numbers L.layout (length sets.old)) }
+    ensures { MakesOf L.layout (done_with 0 (stow (frame_of frame.now alignment) (view_of L.layout words.old sets.old queues.old memory.old))) result words.new sets.new queues.new memory.new }
 {
     let n = data_length(words[RCR], frame.len());
     let status = status_of(words[CONTROL], frame, n, alignment);
-    let number = Packet(sets::lowest_unallocated(sets) as u8);
-    let pages = pages::grant(words, sets, number, pages_for(n));
-    packet::store_frame(memory, pages, status, count_of(n), frame, n);
-    pool::join_rx(words, queues, number);
-    Answer::Done(0)
+    let packet = L::lowest_unallocated(sets);
+    L::grant(words, sets, packet, pages_for(n));
+    let home = L::home(sets, packet);
+    L::store_frame(memory, home, status, count_of(n), frame, n);
+    pool::join::<Rx>(words, queues, packet);
+    Ok(0)
 }

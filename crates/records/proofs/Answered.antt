@@ -1,53 +1,36 @@
--- The rules' gathering with its tests answered, and what the buffer then holds.
-use mathlib.Core.Path.{◌≡◌, refl, ap, sym, ◌∙◌}
-use mathlib.Core.List.{List, ◌++◌}
-use Prim.Native.Nat.{ℕ, ◌+◌, ◌≤◌, ◌<◌}
-use native.Mathlib.Omega.{arith}
-use borrow.Author.Tests.{le-leb, lt-leb}
-use lib.ListN.{length, take, drop, length-drop}
-use lib.Seq.{length-take-le, paste, length-paste, take-paste, drop-paste}
-use Rattle.rules.specs.Chip.{Chip}
-use Rattle.rules.specs.Answers.{done, refusal}
+-- The rules' gathering with its test answered, and what the buffer then holds.
+use Rattle.std.proofs.Common.{◌≡◌, refl, ap, sym, ◌∙◌, Bool, true, false, ◌&&◌, List, ℕ, ◌+◌, ◌≤◌, leb, length, take, drop, None, Some, arith, length-drop, length-take-le}
+use Rattle.std.proofs.Math.Seq.{paste, length-paste, take-paste, drop-paste}
+use Rattle.std.proofs.lemmas.Bool.{leb-true}
+use Rattle.rules.specs.Answers.{done}
 use Rattle.rules.specs.Bench.{gather}
-use Rattle.records.specs.declared.gather.Gathering.TheVariants.{More, Refused}
+use Rattle.state.specs.Keys.{left_true, right_true}
 use Rattle.records.specs.Gathers.{Gathers, holding}
 
-abbrev Refuses : ℕ → List ℕ → List ℕ → Type 0
-Refuses count bytes had = (c : Chip) (out : List ℕ) → gather count bytes (holding c had out) ≡ record { reply = refusal 11; after = holding c had out }
+-- the test of the rules
+abbrev Joins : ℕ → ℕ → Bool
+Joins have count = leb 1 count && leb count 6 && leb (have + count) 2048
 
-module _ (count : ℕ) (bytes had : List ℕ) where
-  pub too_few : count < 1 → Refuses count bytes had
+pub joins_few : (have count : ℕ) → Joins have count ≡ true → (count ≤ 6) × (have + count ≤ 2048)
+joins_few have count t = (leb-true count 6 (right_true _ _ (left_true _ _ t)), leb-true (have + count) 2048 (right_true _ _ t))
+
+module _ (wire : List ℕ) (have : ℕ) (bytes : List ℕ) (count : ℕ) (w : length wire ≡ 2048) (h : have ≤ 2048) where
+  test : {t : Bool} → Joins have count ≡ t → Joins (length (take have wire)) count ≡ t
+  test e = ap (λ (n : ℕ). Joins n count) (length-take-le have wire (omega arith)) ∙ e
+
+  pub keeps : Joins have count ≡ false → Gathers wire have bytes count wire None
   unfolding gather
-  too_few h c out = rw (lt-leb 1 count h)
+  keeps e = record { rule = λ c out. rw (test e); room = h; rest = refl; size = refl }
 
-  pub too_many : 1 ≤ count → 6 < count → Refuses count bytes had
+  pub grows : Joins have count ≡ true → length bytes ≡ 8 → (after : List ℕ) → after ≡ paste wire have (drop 2 bytes) count → Gathers wire have bytes count after (Some (have + count))
   unfolding gather
-  too_many h k c out = rw (le-leb 1 count h, lt-leb count 6 k)
-
-  pub too_long_lem : 1 ≤ count → count ≤ 6 → 2048 < length had + count → Refuses count bytes had
-  unfolding gather
-  too_long_lem h k l c out = rw (le-leb 1 count h, le-leb count 6 k, lt-leb (length had + count) 2048 l)
-
-  gathers : 1 ≤ count → count ≤ 6 → length had + count ≤ 2048 → (c : Chip) (out : List ℕ)
-      → gather count bytes (holding c had out) ≡ record { reply = done; after = holding c (had ++ take count bytes) out }
-  unfolding gather
-  gathers h k l c out = rw (le-leb 1 count h, le-leb count 6 k, le-leb (length had + count) 2048 l)
-
-module _ (wire : List ℕ) (have : ℕ) (bytes : List ℕ) (count : ℕ) where
-  pub keeps : have ≤ 2048 → Refuses count (drop 2 bytes) (take have wire) → Gathers wire have bytes count wire Refused
-  keeps h r = record { rule = r; room = h; rest = refl; size = refl }
-
-  pub grows : length wire ≡ 2048 → length bytes ≡ 8 → 1 ≤ count → count ≤ 6 → have + count ≤ 2048
-      → (after : List ℕ) → after ≡ paste wire have (drop 2 bytes) count → Gathers wire have bytes count after (More (have + count))
-  grows w b h k l after e =
+  grows t b after e =
+      let few = joins_few have count t in
       let n : have ≤ length wire = omega arith in
       let m : count ≤ length (drop 2 bytes) = omega (arith, length-drop 2 bytes) in
-      let f = length-take-le have wire n in
       record {
-        rule = λ c out.
-            gathers count (drop 2 bytes) (take have wire) h k (omega (arith, f)) c out
-            ∙ ap (λ (x : List ℕ). record { reply = done; after = holding c x out }) (sym (ap (take (have + count)) e ∙ take-paste wire have (drop 2 bytes) count n m));
-        room = l;
+        rule = λ c out. rw (test t) (ap (λ (x : List ℕ). record { reply = done; after = holding c x out }) (sym (ap (take (have + count)) e ∙ take-paste wire have (drop 2 bytes) count n m)));
+        room = few.1;
         rest = ap (drop (have + count)) e ∙ drop-paste wire have (drop 2 bytes) count n m;
         size = ap length e ∙ length-paste wire have (drop 2 bytes) count (omega arith) m;
       }

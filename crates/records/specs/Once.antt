@@ -1,5 +1,5 @@
 -- Each function that the crate exports has one result: two that meet its promise are equal.
-use Rattle.std.specs.Prelude.{◌≡◌, refl, List, [], ◌++◌, ℕ, length, take, drop}
+use Rattle.std.specs.Prelude.{◌≡◌, refl, List, [], ◌++◌, ℕ, Option, None, Some, length, take, drop}
 use Rattle.std.proofs.Common.{ap, ap₂, sym, ◌∙◌, arith, take-append-drop, length-take-le}
 use Rattle.rules.specs.Chip.{paged, powered}
 use Rattle.rules.specs.Answers.{Reply}
@@ -11,8 +11,6 @@ use Rattle.state.specs.declared.Width.{Width}
 use Rattle.state.specs.declared.Width.TheVariants as width
 use Rattle.records.specs.declared.event.Event.{Event}
 use Rattle.records.specs.declared.event.Event.TheVariants.{Read, Write, Wire, Ends, Send, Link, Part, Unknown}
-use Rattle.records.specs.declared.gather.Gathering.{Gathering}
-use Rattle.records.specs.declared.gather.Gathering.TheVariants.{More, Refused}
 use Rattle.records.specs.Event.{meant}
 use Rattle.records.specs.Gathers.{Gathers, reply_to, held, holding}
 
@@ -48,13 +46,13 @@ pub event_once : (bytes : List ℕ) (x y : Event) → meant x bytes ≡ event_of
 event_once bytes x y e f = sym (event_back_lem x bytes) ∙ ap event_back (e ∙ sym f) ∙ event_back_lem y bytes
 
 -- Gathering is known from its reply and from how many bytes count then.
-gathering_known : (have : ℕ) (g h : Gathering) → reply_to g ≡ reply_to h → held have g ≡ held have h → g ≡ h
-gathering_known have (More n) (More m) e f = ap More f
-gathering_known have Refused Refused e f = refl
-gathering_known have (More n) Refused e f = absurd (omega (arith, ap (λ (r : Reply). r.number) e))
-gathering_known have Refused (More n) e f = absurd (omega (arith, ap (λ (r : Reply). r.number) e))
+gathering_known : (have : ℕ) (g h : Option ℕ) → reply_to g ≡ reply_to h → held have g ≡ held have h → g ≡ h
+gathering_known have (Some n) (Some m) e f = ap Some f
+gathering_known have None None e f = refl
+gathering_known have (Some n) None e f = absurd (omega (arith, ap (λ (r : Reply). r.number) e))
+gathering_known have None (Some n) e f = absurd (omega (arith, ap (λ (r : Reply). r.number) e))
 
-module _ {before bytes after after' : List ℕ} {have count : ℕ} {g h : Gathering} (long : length before ≡ 2048) (p : Gathers before have bytes count after g) (q : Gathers before have bytes count after' h) where
+module _ {before bytes after after' : List ℕ} {have count : ℕ} {g h : Option ℕ} (long : length before ≡ 2048) (p : Gathers before have bytes count after g) (q : Gathers before have bytes count after' h) where
   told : {A : Type 0} (f : rules.Answered → A) → f (record { reply = reply_to g; after = holding (powered paged 24) (take (held have g) after) [] }) ≡ f (record { reply = reply_to h; after = holding (powered paged 24) (take (held have h) after') [] })
   told f = sym (ap f (p.rule (powered paged 24) [])) ∙ ap f (q.rule (powered paged 24) [])
 

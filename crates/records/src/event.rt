@@ -5,10 +5,10 @@ ghost use Rattle.rules.specs.Watch.{is_send};
 ghost use Rattle.state.specs.Meaning.{packets_named};
 ghost use Rattle.records.specs.Event.{meant};
 
-use state::{Named, Width};
+use state::{Part, Width};
 
 // Width, offset and value of an access, the count of wire bytes, the flag alignment, a send's outcome, collisions and deferral, the link's byte, and the part's.
-#[derive(Drop)]
+#[derive(Clone, Copy)]
 pub enum Event {
     Read(Width, u8),
     Write(Width, u8, u16),
@@ -24,8 +24,7 @@ pub fn event_of(bytes: &[u8]) -> Event
     requires { length bytes.now ≡ 8 }
     ensures { meant result bytes.now ≡ event_of bytes.now }
 {
-    let kind = bytes[0];
-    match kind {
+    match bytes[0] {
         1 => Event::Read(Width::Byte, bytes[1]),
         2 => Event::Read(Width::Word, bytes[1]),
         3 => Event::Write(Width::Byte, bytes[1], bits::word(bytes[2], bytes[3])),
@@ -40,12 +39,12 @@ pub fn event_of(bytes: &[u8]) -> Event
 }
 
 // The part that a record asks for, if it asks for one.
-pub fn part_asked(bytes: &[u8]) -> Named
+pub fn part_asked(bytes: &[u8]) -> Option<Part>
     requires { length bytes.now ≡ 8 }
     ensures { packets_named result ≡ asks_for (event_of bytes.now) }
 {
     if bytes[0] != 9 {
-        return Named::Unknown;
+        return None;
     }
     state::part_named(bytes[1])
 }

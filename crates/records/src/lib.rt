@@ -5,4 +5,4 @@ mod event; // event.rt: a record's event
 mod gather; // gather.rt: wire bytes gathered
 
 pub use event::{Event, event_of, is_send, part_asked};
-pub use gather::{Gathering, gathered};
+pub use gather::gathered;

@@ -4,7 +4,7 @@ ghost use Rattle.rules.specs.Link as rules;
 ghost use Rattle.state.specs.View.{Kept};
 ghost use Rattle.state.specs.Promise.{Does};
 
-use state::{Answer, LINK, flags};
+use state::{Answer, LINK, Refusal, flags};
 
 // The link is down (0) or up (1). The same state again is no change.
 pub fn plug(words: &mut [u16], up: u8) -> Answer
@@ -13,11 +13,11 @@ pub fn plug(words: &mut [u16], up: u8) -> Answer
     ensures long { length words.new ≡ 32 }
 {
     if 1 < up {
-        return Answer::OutsideLimits;
+        return Err(Refusal::OutsideLimits);
     }
     if words[LINK] % 2 == up as u16 {
-        return Answer::Done(0);
+        return Ok(0);
     }
     words[LINK] = (1 << flags::LINK_CHANGED) + up as u16;
-    Answer::Done(0)
+    Ok(0)
 }

@@ -7,7 +7,7 @@ ghost use Rattle.state.specs.Promise.{Does};
 ghost use Rattle.state.specs.Writes.{Plain};
 
 use crate::words::{HIGH_33, ephsr_after, low_set};
-use state::{Answer, BANK, CONTROL, EPHSR, LINK, PACKET, RESERVED, TCR, Width};
+use state::{Answer, BANK, CONTROL, EPHSR, LINK, PACKET, RESERVED, Refusal, TCR, Width};
 
 // A register that is a word, at its place.
 pub fn write_word(words: &mut [u16], at: usize, width: Width, offset: u8, value: u16) -> Answer
@@ -16,7 +16,7 @@ pub fn write_word(words: &mut [u16], at: usize, width: Width, offset: u8, value:
     ensures long { length words.new ≡ 32 }
 {
     words[at] = state::merged(width, offset, value, words[at]);
-    Answer::Done(0)
+    Ok(0)
 }
 
 // TCR, and with TXENA left set EPHSR.
@@ -27,7 +27,7 @@ pub fn write_tcr(words: &mut [u16], width: Width, offset: u8, value: u16) -> Ans
     let tcr = state::merged(width, offset, value, words[TCR]);
     words[TCR] = tcr;
     words[EPHSR] = ephsr_after(tcr, words[EPHSR]);
-    Answer::Done(0)
+    Ok(0)
 }
 
 // Control. A change of the link is forgotten.
@@ -37,7 +37,7 @@ pub fn write_control(words: &mut [u16], width: Width, offset: u8, value: u16) ->
 {
     words[CONTROL] = state::merged(width, offset, value, words[CONTROL]);
     words[LINK] = words[LINK] % 2;
-    Answer::Done(0)
+    Ok(0)
 }
 
 // Pages reserved for transmit, beside 33h.
@@ -46,10 +46,10 @@ pub fn write_reserved(words: &mut [u16], width: Width, offset: u8, value: u16) -
     ensures { Does (rules.write_register rules.RESERVED (rules.lanes_at (width_of width) offset) value) words.old result words.new }
 {
     if state::is_high(width, offset) {
-        return Answer::ReadOnly;
+        return Err(Refusal::ReadOnly);
     }
     words[RESERVED] = HIGH_33 + value % 256;
-    Answer::Done(0)
+    Ok(0)
 }
 
 // The packet number, beside the allocation result.
@@ -58,10 +58,10 @@ pub fn write_packet(words: &mut [u16], width: Width, offset: u8, value: u16) -> 
     ensures { Does (rules.write_register rules.PACKET (rules.lanes_at (width_of width) offset) value) words.old result words.new }
 {
     if state::is_high(width, offset) {
-        return Answer::ReadOnly;
+        return Err(Refusal::ReadOnly);
     }
     words[PACKET] = low_set(words[PACKET], value % 64);
-    Answer::Done(0)
+    Ok(0)
 }
 
 // The bank, beside 33h.
@@ -70,8 +70,8 @@ pub fn write_bank(words: &mut [u16], width: Width, offset: u8, value: u16) -> An
     ensures { Does (rules.write_register rules.BANK (rules.lanes_at (width_of width) offset) value) words.old result words.new }
 {
     if state::is_high(width, offset) {
-        return Answer::ReadOnly;
+        return Err(Refusal::ReadOnly);
     }
     words[BANK] = HIGH_33 + value % 8;
-    Answer::Done(0)
+    Ok(0)
 }

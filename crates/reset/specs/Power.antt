@@ -1,12 +1,11 @@
 -- The chip after a reset of its words and then of its pool: at power-up, and by a soft reset.
-use Rattle.std.specs.Prelude.{◌≡◌, refl, true, false, List, [], ℕ, length, set, replicate}
+use Rattle.std.specs.Prelude.{◌≡◌, refl, true, false, List, [], ℕ, length, set, replicate, Ok}
 use Rattle.std.proofs.Common.{ap, sym, ◌∙◌, length-set}
 use Rattle.std.proofs.lemmas.List.{length-replicate}
 use Rattle.rules.specs.Bits.{bit}
 use Rattle.rules.specs.Chip.{Registers, Layout, Pool, Chip, size, reset_registers, empty_pool}
 use Rattle.rules.specs.Fields.{set_rcr, in_registers}
 use Rattle.rules.specs.Registers.{Lanes, RCR, new_rcr, write_rcr, write_register}
-use Rattle.state.specs.declared.Answer.TheVariants.{Done}
 use Rattle.state.specs.View.{word, registers_in, figures, lists_of, pool_of, view_of}
 use Rattle.state.specs.Pages.{numbers_length}
 use Rattle.state.specs.Promise.{PagesIn, SoundOf, sets_chip, sets_sound, MakesOf}
@@ -48,6 +47,6 @@ soft_size {l} {s = s} {s' = s'} r =
 
 -- A write to RCR that leaves bit 15 set.
 pub rcr_resets : {l : Layout} (p : Lanes) (v new : ℕ) → bit 15 new ≡ true → (w s q w' s' q' : List ℕ) → new ≡ new_rcr p v (word w 2) → SoftResetsOf l w s q w' s' q'
-    → (mem : List ℕ) → MakesOf l (write_register RCR p v (view_of l w s q mem)) (Done 0) w' s' q' mem
+    → (mem : List ℕ) → MakesOf l (write_register RCR p v (view_of l w s q mem)) (Ok 0) w' s' q' mem
 unfolding write_register write_rcr
 rcr_resets p v new up w s q w' s' q' right r mem = record { chip = r.chip mem ∙ rw (← right, up) refl; reply = refl; sound = r.sound }

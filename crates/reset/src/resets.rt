@@ -1,10 +1,11 @@
 // Reset values, and the soft reset by RCR.
 ghost use Rattle.std.specs.Prelude.{◌≡◌, List, ℕ, length, replicate};
+ghost use Rattle.rules.specs.Chip.{Layout};
 ghost use Rattle.rules.specs.Registers as rules;
 ghost use Rattle.state.specs.Meaning.{width_of};
-ghost use Rattle.state.specs.View.{view};
-ghost use Rattle.state.specs.Promise.{Sound, Makes};
-ghost use Rattle.reset.specs.Promises.{zero_but, WordsReset, SoftResets};
+ghost use Rattle.state.specs.View.{view_of};
+ghost use Rattle.state.specs.Promise.{SoundOf, MakesOf};
+ghost use Rattle.reset.specs.Promises.{zero_but, WordsReset, SoftResetsOf};
 
 use crate::words::new_rcr;
 use registers::HIGH_33;
@@ -47,8 +48,8 @@ pub fn reset_words(words: &mut [u16])
 
 // All is reset but the station address, the link and the memory.
 fn soft_reset(words: &mut [u16], sets: &mut [u32], queues: &mut [u8])
-    requires { Sound words.old sets.old queues.old }
-    ensures { SoftResets words.old sets.old queues.old words.new sets.new queues.new }
+    requires { (l : Layout) × SoundOf l words.old sets.old queues.old }
+    ensures { (l : Layout) → SoundOf l words.old sets.old queues.old → SoftResetsOf l words.old sets.old queues.old words.new sets.new queues.new }
 {
     reset_words(words);
     pool::reset(words, sets, queues);
@@ -64,15 +65,15 @@ pub fn write_rcr(
     offset: u8,
     value: u16,
 ) -> Answer
-    requires { Sound words.old sets.old queues.old }
-    ensures done { (mem : List ℕ) → Makes (rules.write_register rules.RCR (rules.lanes_at (width_of width) offset) value (view words.old sets.old queues.old mem)) result words.new sets.new queues.new mem }
+    requires { (l : Layout) × SoundOf l words.old sets.old queues.old }
+    ensures done { (l : Layout) (mem : List ℕ) → SoundOf l words.old sets.old queues.old → MakesOf l (rules.write_register rules.RCR (rules.lanes_at (width_of width) offset) value (view_of l words.old sets.old queues.old mem)) result words.new sets.new queues.new mem }
     ensures long { (length words.new ≡ 32) × (length sets.new ≡ length sets.old) × (length queues.new ≡ 72) }
 {
     let rcr = new_rcr(width, offset, value, words[RCR]);
     if bits::is_set(rcr, flags::SOFT_RST) {
         soft_reset(words, sets, queues);
-        return Answer::Done(0);
+        return Ok(0);
     }
     words[RCR] = rcr;
-    Answer::Done(0)
+    Ok(0)
 }

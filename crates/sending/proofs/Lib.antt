@@ -1,2 +1,2 @@
 pub mod Head
-pub mod Loops
+pub mod Addressed

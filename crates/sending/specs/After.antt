@@ -13,7 +13,7 @@ use Rattle.rules.specs.Link.{shown, shown_ephsr}
 use Rattle.rules.specs.Send.{Send, in_limits, outcome_bits, address_bits, any_at15, tally, new_ephsr, sent_registers, retire, status_word, status_written}
 use Rattle.lists.specs.Facts.{is_true, le_decides, ◌and◌, member_at}
 use Rattle.wellformed.specs.Pool.{has_small}
-use Rattle.state.specs.declared.Answer.{Answer}
+use Rattle.state.specs.Meaning.{Answer}
 use Rattle.state.specs.Meaning.{reply_of}
 use Rattle.state.specs.View.{word, registers_in, figures, queue_in, lists_of, view_of}
 use Rattle.state.specs.Promise.{QueuesIn, SoundOf, ReadyOf}
@@ -26,6 +26,13 @@ module _ {is_good : Bool} {s : Send} {bits : ℕ} {w q w' q' : List ℕ} (t : Se
   -- completion has as many entries as before
   pub same_completion : QueuesIn (figures w) q → word w' 9 ≡ word w 9
   same_completion o = t.queues.completion.many ∙ ap (λ (c : Chip). length c.pool.completion) (t.chip paged [] []) ∙ sym o.completion.many
+
+  -- as many pages are waited for, and the state is in order beside any packets' pages
+  pub same_waiting : word w' 23 ≡ word w 23
+  same_waiting = ap (λ (c : Chip). c.regs.numbers.waiting) (t.chip paged [] [])
+
+  pub sent_sound : {l : Layout} {sets : List ℕ} → SoundOf l w sets q → SoundOf l w' sets q'
+  sent_sound o = record { kept = t.kept; queues = t.queues; sets = record { part = o.sets.part; free = t.free ∙ o.sets.free; small = o.sets.small } }
 
   -- the status word: EPHSR as it is shown
   abbrev status_in : ℕ

@@ -1,5 +1,5 @@
 -- What a send does, with its tests answered: what the proofs of the code cite in place of the text of `finish`.
-use Rattle.std.specs.Prelude.{◌≡◌, Bool, true, false, cond, ℕ, ◌*◌, ◌≤◌, ◌<◌, ltb, get_or, drop}
+use Rattle.std.specs.Prelude.{◌≡◌, Bool, true, false, cond, ℕ, ◌*◌, ◌≤◌, ◌<◌, ltb, get_or, drop, Ok}
 use Rattle.std.proofs.Common.{ap, ap₂, ◌∙◌}
 use Rattle.std.proofs.Math.Path.{sym}
 use mathlib.Core.List.{List}
@@ -10,7 +10,6 @@ use Rattle.rules.specs.Chip.{Layout, Chip, pages_at}
 use Rattle.rules.specs.Answers.{Turn, refused, refused_with, over}
 use Rattle.lists.specs.Facts.{no_head, head_and_rest}
 use Rattle.rules.specs.Send.{Send, in_limits, byte_count, good, put_out, auto_release, no_place, send_head, if_usable, if_sendable, by_tx_head, finish}
-use Rattle.state.specs.declared.Answer.TheVariants as answer
 use Rattle.state.specs.Meaning.{reply_of}
 use Rattle.on_wire.specs.PutsOut.{PutsOut}
 use Rattle.sending.specs.Sends.{SendsOf, completed, CompletesOf, head_sent}
@@ -54,7 +53,7 @@ module _ (s : Send) (c : Chip) (out : List ℕ) where
   head = get_or c.pool.tx 0 0
 
   -- all that a send does
-  abbrev done : List ℕ → ℕ → Turn
+  abbrev pub done : List ℕ → ℕ → Turn
   done pages count = record {
     reply = record { number = 0; value = length (put_out c.regs.sending.tcr count pages c.memory) };
     chip = completed (auto_release is_good c.regs) is_good s pages c;
@@ -96,10 +95,10 @@ module _ (s : Send) (c : Chip) (out : List ℕ) where
 
   -- what is put out, and what is done to the chip, are what a send does
   pub sends_all : {l : Layout} (count : ℕ) {w s' q mem out' pages : List ℕ} {n : ℕ} {released g : Bool} → released ≡ auto_release is_good c.regs → g ≡ is_good
-      → PutsOut (put_out c.regs.sending.tcr count pages c.memory) out out' n → CompletesOf l released g s pages c w s' q mem → SendsOf l (done pages count) (answer.Done n) w s' q mem out'
+      → PutsOut (put_out c.regs.sending.tcr count pages c.memory) out out' n → CompletesOf l released g s pages c w s' q mem → SendsOf l (done pages count) (Ok n) w s' q mem out'
   sends_all count {pages = pages} e f p d = record {
     chip = d.chip ∙ ap₂ (λ (b i : Bool). completed b i s pages c) e f;
-    reply = ap (λ (i : ℕ). reply_of (answer.Done i)) p.value;
+    reply = ap (λ (i : ℕ). reply_of (Ok i)) p.value;
     output = p.output;
     sound = d.sound;
   }

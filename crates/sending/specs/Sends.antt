@@ -7,7 +7,7 @@ use Rattle.rules.specs.Fields.{set_tx, in_registers, in_pool}
 use Rattle.rules.specs.Answers.{Turn}
 use Rattle.rules.specs.Packet.{get_bytes}
 use Rattle.rules.specs.Send.{Send, sent_registers, retire, status_word, status_written, if_sendable}
-use Rattle.state.specs.declared.Answer.{Answer}
+use Rattle.state.specs.Meaning.{Answer}
 use Rattle.state.specs.Meaning.{reply_of}
 use Rattle.state.specs.View.{view_of}
 use Rattle.state.specs.Promise.{SoundOf}

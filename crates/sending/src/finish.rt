@@ -1,43 +1,44 @@
 // A send finishes: the TX head is sent.
 ghost use Rattle.std.specs.Prelude.{◌≡◌, false, ◌*◌, ◌≤◌, ◌<◌, length};
+ghost use Rattle.rules.specs.Chip.{page_numbers};
 ghost use Rattle.rules.specs.Send as rules;
-ghost use Rattle.sets.specs.Views.{pages_of};
-ghost use Rattle.packet.specs.Room.{Room};
-ghost use Rattle.state.specs.View.{word, view};
-ghost use Rattle.state.specs.Promise.{Ready};
+ghost use Rattle.state.specs.View.{word, view_of};
+ghost use Rattle.state.specs.Promise.{ReadyOf};
 ghost use Rattle.outcomes.specs.Numbers.{send_of};
-ghost use Rattle.sending.specs.Sends.{head_sent, Completes, Sends};
+ghost use Rattle.sending.specs.Sends.{head_sent, CompletesOf, SendsOf};
 
 use crate::address::address_bits;
 use crate::output::{LEAST_COUNT, is_past, put_out};
 use on_wire::OUTPUT_BYTES;
 use outcomes::{Send, after_send, is_full, is_good, is_released, is_within, retire};
+use pool::Tx;
 use sets::Address;
-use state::{Answer, COMPLETION_COUNT, CONTROL, EPHSR, LINK, TCR, TX_COUNT, flags};
+use state::{Answer, COMPLETION_COUNT, CONTROL, EPHSR, LINK, Refusal, TCR, TX_COUNT, flags};
+use stores::Store;
 
-// What a send does once its bytes are out: registers, TX, the status word, and what becomes of the packet. `pages` are those of the TX head.
-fn complete(
+// What a send does once its bytes are out: registers, TX, the status word, and what becomes of the packet. `home` is where the TX head lies.
+fn complete<L: Store>(
     words: &mut [u16],
     sets: &mut [u32],
     queues: &mut [u8],
     memory: &mut [u8],
-    pages: u32,
+    home: L::Home,
     s: Send,
     good: bool,
     released: bool,
 )
-    requires { Ready words.old sets.old queues.old × (0 < word words.old 8) × Room 10 pages memory.old × (s.outcome ≤ 5) × (released ≡ false → word words.old 9 < 24) }
-    ensures { Completes released good (send_of s) (pages_of pages) (view words.old sets.old queues.old memory.old) words.new sets.new queues.new memory.new }
+    requires { ReadyOf L.layout words.old sets.old queues.old × (0 < word words.old 8) × L.Fits home memory.old × (10 ≤ 256 * length (L.pages_in home)) × (s.outcome ≤ 5) × (released ≡ false → word words.old 9 < 24) }
+    ensures { CompletesOf L.layout released good (send_of s) (L.pages_in home) (view_of L.layout words.old sets.old queues.old memory.old) words.new sets.new queues.new memory.new }
 {
-    let address = address_bits(memory, pages);
+    let address = address_bits::<L>(memory, home);
     let head = after_send(words, queues, s, good, address);
     let status = state::shown_ephsr(words[EPHSR], words[LINK]);
-    packet::write_status(memory, pages, status);
-    retire(words, sets, queues, head, released);
+    L::write_status(memory, home, status);
+    retire::<L>(words, sets, queues, head, released);
 }
 
 // The TX head is sent (the rules' `if_sendable`): refusals 13, 18 and 19 with its byte count, then 14, and else all that a send does.
-fn send_head(
+fn send_head<L: Store>(
     words: &mut [u16],
     sets: &mut [u32],
     queues: &mut [u8],
@@ -45,32 +46,33 @@ fn send_head(
     out: &mut [u8],
     s: Send,
 ) -> Answer
-    requires { Ready words.old sets.old queues.old × (length memory.old ≡ 256 * length sets.old) × (2052 ≤ length out.old) × (0 < word words.old 8) × (s.outcome ≤ 5) }
-    ensures { Sends (head_sent (send_of s) (view words.old sets.old queues.old memory.old) out.old) result words.new sets.new queues.new memory.new out.new }
+    requires { ReadyOf L.layout words.old sets.old queues.old × (length memory.old ≡ 256 * page_numbers L.layout (length sets.old)) × (2052 ≤ length out.old) × (0 < word words.old 8) × (s.outcome ≤ 5) }
+    ensures { SendsOf L.layout (head_sent (send_of s) (view_of L.layout words.old sets.old queues.old memory.old) out.old) result words.new sets.new queues.new memory.new out.new }
 {
-    let pages = sets::set_of(sets, pool::tx_head(queues));
-    let count = packet::read_word(memory, pages, Address(2));
+    let packet = pool::head::<Tx>(queues);
+    let home = L::home(sets, packet);
+    let count = L::read_word(memory, home, Address(2));
     if bits::is_set(count, 0) {
-        return Answer::OddCount(count);
+        return Err(Refusal::OddCount(count));
     }
     if count < LEAST_COUNT {
-        return Answer::ShortCount(count);
+        return Err(Refusal::ShortCount(count));
     }
-    if is_past(count, sets::page_count(pages)) {
-        return Answer::LongCount(count);
+    if is_past(count, L::page_count(home)) {
+        return Err(Refusal::LongCount(count));
     }
     let good = is_good(words[TCR], s.outcome);
     let released = is_released(good, words[CONTROL]);
     if is_full(released, words[COMPLETION_COUNT], sets.len()) {
-        return Answer::CompletionFull;
+        return Err(Refusal::CompletionFull);
     }
-    let value = put_out(memory, pages, words[TCR], count, out);
-    complete(words, sets, queues, memory, pages, s, good, released);
-    Answer::Done(value)
+    let value = put_out::<L>(memory, home, words[TCR], count, out);
+    complete::<L>(words, sets, queues, memory, home, s, good, released);
+    Ok(value)
 }
 
 // A send finishes, on a chip that is well formed.
-pub fn finished(
+pub fn finished<L: Store>(
     words: &mut [u16],
     sets: &mut [u32],
     queues: &mut [u8],
@@ -80,11 +82,11 @@ pub fn finished(
     collisions: u8,
     deferral: u8,
 ) -> Answer
-    requires { Ready words.old sets.old queues.old × (length memory.old ≡ 256 * length sets.old) }
-    ensures { Sends (rules.finish (record { outcome = outcome; collisions = collisions; deferral = deferral }) (view words.old sets.old queues.old memory.old) out.old) result words.new sets.new queues.new memory.new out.new }
+    requires { ReadyOf L.layout words.old sets.old queues.old × (length memory.old ≡ 256 * page_numbers L.layout (length sets.old)) }
+    ensures { SendsOf L.layout (rules.finish (record { outcome = outcome; collisions = collisions; deferral = deferral }) (view_of L.layout words.old sets.old queues.old memory.old) out.old) result words.new sets.new queues.new memory.new out.new }
 {
     if out.len() < OUTPUT_BYTES {
-        return Answer::ShortOutput;
+        return Err(Refusal::ShortOutput);
     }
     let s = Send {
         outcome,
@@ -92,13 +94,13 @@ pub fn finished(
         deferral,
     };
     if !is_within(s) {
-        return Answer::OutsideLimits;
+        return Err(Refusal::OutsideLimits);
     }
     if !bits::is_set(words[TCR], flags::TXENA) {
-        return Answer::NothingToSend;
+        return Err(Refusal::NothingToSend);
     }
     if words[TX_COUNT] == 0 {
-        return Answer::NothingToSend;
+        return Err(Refusal::NothingToSend);
     }
-    send_head(words, sets, queues, memory, out, s)
+    send_head::<L>(words, sets, queues, memory, out, s)
 }

@@ -6,4 +6,3 @@ mod output; // output.rt: what is put out
 mod finish; // finish.rt: all of it, with its refusals
 
 pub use finish::finished;
-pub use output::{LEAST_COUNT, is_past};

@@ -1,2 +1,3 @@
--- What the bench asks of a read.
+-- What the bench asks of a read, and what it holds.
+pub mod Bench
 pub mod Fills

@@ -1,14 +1,12 @@
 -- The pages of a set: which they are, that they ascend, how many, and what becomes of them where the lowest bits are cleared.
 use Rattle.std.specs.Prelude.{◌≡◌, ℕ, zero, suc, ◌+◌, ◌-◌, ◌*◌, ◌/◌, ◌%◌, ◌^◌, ◌<◌, ◌≤◌, Bool, true, false, not, ◌||◌, List, [], ◌∷◌, ◌++◌, length, take, drop, ◌==◌, ◌≢◌, bit_and, bit_xor, nat_lt, slice_index, slice_index_or, refl}
-use Rattle.std.proofs.Common.{ap, ap₂, sym, ◌∙◌, subst, true≢false, append-nil, append_assoc, mod-lt, add_comm, add-suc, suc-add, add-zero, zero-add, lt_of_lt_of_le, add-one, one-add, arith, eq-eqb, ne_eqb, lt-ltb, le-ltb, get_or-drop, length-append, length-drop, pow_pos, pow_mono, shr_lt}
+use Rattle.std.proofs.Common.{ap, ap₂, sym, ◌∙◌, subst, true≢false, append-nil, mod-lt, add_comm, add-suc, suc-add, add-zero, zero-add, lt_of_lt_of_le, add-one, one-add, arith, eq-eqb, ne_eqb, lt-ltb, le-ltb, get_or-drop, length-append, length-drop, pow_pos, pow_mono, shr_lt}
 use Rattle.std.proofs.Math.Nat.{mod-one, zero-min, min-zero}
 use Rattle.std.proofs.Math.Decide.{dec_le, ℕ_discrete}
 use Rattle.std.proofs.Math.Arith.{digits_div, digits_mod}
 use Rattle.std.proofs.Math.Seq.{take-nil}
-use Rattle.std.proofs.lemmas.List.{get_or_at}
 use Rattle.std.specs.Int.Bits.{differ, and_step, xor_step, and_self}
 use lib.Count.{ones, ones_step, ones_cat, count_trailing_zeros}
-use Rattle.std.proofs.Math.ListN.{get_or-append}
 use Rattle.std.proofs.lemmas.Nat.{mod-pow-add}
 use Rattle.rules.specs.Lists.{member, some?, owned, unless, free_below}
 use Rattle.rules.specs.Bits.{bit}

@@ -1,25 +1,21 @@
 // The sets of all packets: for each packet number its pages.
-ghost use Rattle.std.specs.Prelude.{◌≡◌, ℕ, ◌-◌, ◌^◌, ◌<◌, ◌≤◌, [], map, length, take, set, replicate, if◌then◌else◌, count_ones, nat_lt, slice_index_or};
+ghost use Rattle.std.specs.Prelude.{◌≡◌, ℕ, ◌-◌, ◌^◌, ◌<◌, ◌≤◌, [], map, length, take, set, replicate, not, count_ones, nat_lt, slice_index_or};
+ghost use Rattle.std.specs.Option.{SomeIff};
 ghost use Rattle.rules.specs.Lists.{owned, first_empty, free_below};
 ghost use Rattle.rules.specs.Bits.{bit};
 ghost use Rattle.rules.specs.WellFormed.{GoodPages};
 ghost use Rattle.lists.specs.Facts.{Decides};
 ghost use Rattle.sets.specs.Views.{pages_of};
-ghost use Rattle.sets.specs.Joins.{Joins, FewEach};
+ghost use Rattle.sets.specs.Joins.{Joins, FewEach, join4};
 
 use crate::Packet;
 use crate::set::lowest;
-use std::num::wrapping_add_u32;
 
 // The packet's pages: none where there is no such packet.
 pub fn set_of(sets: &[u32], packet: Packet) -> u32
     ensures { pages_of result ≡ slice_index_or (map pages_of sets.now) packet.0 [] }
 {
-    let k = packet.0 as usize;
-    if sets.len() <= k {
-        return 0;
-    }
-    sets[k]
+    sets.get(packet.0 as usize).copied().unwrap_or(0)
 }
 
 // The pages that packets own.
@@ -27,10 +23,8 @@ pub fn owned_set(sets: &[u32]) -> u32
     ensures { (p : ℕ) → bit p result ≡ owned p (map pages_of sets.now) }
 {
     let mut taken = 0;
-    let mut k = 0;
-    while k < sets.len() {
-        taken = taken | sets[k];
-        k += 1;
+    for set in sets {
+        taken |= *set;
     }
     taken
 }
@@ -56,28 +50,17 @@ pub fn free_set(sets: &[u32]) -> u32
 pub fn lowest_unallocated(sets: &[u32]) -> usize
     ensures { result ≡ first_empty (map pages_of sets.now) }
 {
-    let mut number = 0;
-    loop {
-        if sets.len() <= number {
-            break number;
-        }
-        if sets[number] == 0 {
-            break number;
-        }
-        number += 1;
-    }
+    sets.iter().position(|set| *set == 0).unwrap_or(sets.len())
 }
 
 // No packet has pages. Only what is not 0 is stored: stores of all are a call of memset by the length, and a write's stack 16 bytes deeper.
 pub fn cleared(sets: &mut [u32])
     ensures { map pages_of sets.new ≡ replicate (length sets.old) [] }
 {
-    let mut k = 0;
-    while k < sets.len() {
-        if sets[k] != 0 {
-            sets[k] = 0;
+    for set in sets.iter_mut() {
+        if *set != 0 {
+            *set = 0;
         }
-        k += 1;
     }
 }
 
@@ -107,84 +90,84 @@ const MOST: u32 = 8;
 fn crowded(set: u32) -> bool
     ensures { result ≡ nat_lt 8 (count_ones set) }
 {
-    MOST < u32::count_ones(set)
+    MOST < set.count_ones()
 }
 
 // Has no packet more pages than it may?
 fn few_each(sets: &[u32]) -> bool
-    requires { length sets.now ≡ 24 }
     ensures { Decides result (FewEach 8 sets.now) }
 {
-    let mut found = false;
-    let mut k = 0;
-    while k < 24 {
-        found = found | crowded(sets[k]);
-        k += 1;
-    }
-    !found
+    sets.iter().all(|set| !crowded(*set))
 }
 
-// The sets joined, those of packets 0, 4, 8 .. apart from 1, 5, 9 .. and so on, and the sum of all: four sets in a step with no branch, which the compiler makes one vector.
-#[derive(Drop)]
-struct Rows(u32, u32, u32, u32, u32);
+// The sets joined, those of packets 0, 4, 8 .. apart from 1, 5, 9 .. and so on, and the sum of all.
+#[derive(Clone, Copy)]
+struct Rows {
+    a: u32,
+    b: u32,
+    c: u32,
+    d: u32,
+    sum: u32,
+}
 
+impl Rows {
+    // The pages of all sets.
+    fn pages(self) -> u32
+        ensures { result ≡ join4 self.a self.b self.c self.d }
+    {
+        (self.a | self.b) | (self.c | self.d)
+    }
+
+    // Stand more pages in one of the joins than a packet may have?
+    fn crowded(self) -> bool
+        ensures { Decides (not result) ((count_ones self.a ≤ 8) × (count_ones self.b ≤ 8) × (count_ones self.c ≤ 8) × (count_ones self.d ≤ 8)) }
+    {
+        crowded(self.a) | crowded(self.b) | crowded(self.c) | crowded(self.d)
+    }
+}
+
+// Four sets in a step with no branch, which the compiler makes one vector, and six steps, which it lays out flat.
 fn joined(sets: &[u32]) -> Rows
     requires { length sets.now ≡ 24 }
-    ensures { Joins sets.now result.0 result.1 result.2 result.3 result.4 [] }
+    ensures { Joins sets.now result.a result.b result.c result.d result.sum [] }
 {
     let mut a = 0;
     let mut b = 0;
     let mut c = 0;
     let mut d = 0;
-    let mut sum = 0;
-    let mut k = 0;
-    while k < 24 {
-        let w = sets[k];
-        let x = sets[k + 1];
-        let y = sets[k + 2];
-        let z = sets[k + 3];
-        a = a | w;
-        b = b | x;
-        c = c | y;
-        d = d | z;
-        sum = wrapping_add_u32(sum, w);
-        sum = wrapping_add_u32(sum, x);
-        sum = wrapping_add_u32(sum, y);
-        sum = wrapping_add_u32(sum, z);
-        k += 4;
+    let mut sum = 0u32;
+    for row in 0..6 {
+        let w = sets[4 * row];
+        let x = sets[4 * row + 1];
+        let y = sets[4 * row + 2];
+        let z = sets[4 * row + 3];
+        a |= w;
+        b |= x;
+        c |= y;
+        d |= z;
+        sum = sum
+            .wrapping_add(w)
+            .wrapping_add(x)
+            .wrapping_add(y)
+            .wrapping_add(z);
     }
-    Rows(a, b, c, d, sum)
+    Rows { a, b, c, d, sum }
 }
 
-// Are the page lists what document 01 asks, and how many pages are free? 0 where they are not.
-#[derive(Drop)]
-pub struct Checked(pub bool, pub u32);
-
-// Of a part with so many pages. The sum is the join exactly where no page is in two sets. The sets are counted one by one only where more than 8 pages stand in one of the four joins.
-pub fn audit(sets: &[u32], count: usize) -> Checked
+// How many pages are free, where the page lists are what document 01 asks of a part with so many pages, and nothing where they are not.
+// The sum is the join exactly where no page is in two sets. The sets are counted one by one only where more than 8 pages stand in one of the four joins.
+pub fn audit(sets: &[u32], count: usize) -> Option<u32>
     requires { (length sets.now ≡ 24) × (count ≤ 24) }
-    ensures good { Decides result.0 (GoodPages count (map pages_of sets.now)) }
-    ensures free { result.1 ≡ (if result.0 then length (free_below count (map pages_of sets.now)) else 0) }
+    ensures { SomeIff result (GoodPages count (map pages_of sets.now)) (length (free_below count (map pages_of sets.now))) }
 {
-    let all = all_pages(count);
-    let j = joined(sets);
-    let owned = (j.0 | j.1) | (j.2 | j.3);
-    if all < owned {
-        return Checked(false, 0);
+    let rows = joined(sets);
+    let owned = rows.pages();
+    if all_pages(count) < owned || rows.sum != owned {
+        return None;
     }
-    if j.4 != owned {
-        return Checked(false, 0);
+    let pages = owned.count_ones();
+    if MOST < pages && rows.crowded() && !few_each(sets) {
+        return None;
     }
-    let pages = u32::count_ones(owned);
-    let free = count as u32 - pages;
-    if pages <= MOST {
-        return Checked(true, free);
-    }
-    if crowded(j.0) | crowded(j.1) | crowded(j.2) | crowded(j.3) {
-        if few_each(sets) {
-            return Checked(true, free);
-        }
-        return Checked(false, 0);
-    }
-    Checked(true, free)
+    Some(count as u32 - pages)
 }

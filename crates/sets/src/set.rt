@@ -9,7 +9,7 @@ use crate::Page;
 pub fn page_count(set: u32) -> u32
     ensures { result ≡ length (pages_of set) }
 {
-    u32::count_ones(set)
+    set.count_ones()
 }
 
 // Has the set a page?
@@ -24,10 +24,8 @@ pub fn without(set: u32, k: u32) -> u32
     ensures { pages_of result ≡ drop k (pages_of set) }
 {
     let mut rest = set;
-    let mut left = k;
-    while 0 < left {
-        rest = rest & std::num::wrapping_sub_u32(rest, 1);
-        left -= 1;
+    for _ in 0..k {
+        rest &= rest.wrapping_sub(1);
     }
     rest
 }
@@ -37,7 +35,7 @@ pub fn lowest_page(set: u32) -> Page
     requires { 0 < set }
     ensures { result.0 ≡ slice_index (pages_of set) 0 }
 {
-    Page(u32::trailing_zeros(set) as u8)
+    Page(set.trailing_zeros() as u8)
 }
 
 // Page k of the set: the place of its bit with k ones below it.

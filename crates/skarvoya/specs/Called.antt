@@ -1,5 +1,5 @@
 -- From what a step promises to what a call promises.
-use Rattle.std.specs.Prelude.{◌≡◌, refl, List, [], ◌++◌, ℕ, ◌*◌, drop}
+use Rattle.std.specs.Prelude.{◌≡◌, refl, List, [], ◌++◌, ℕ, ◌*◌, drop, Ok, Err}
 use Rattle.std.proofs.Common.{ap, sym, subst, ◌∙◌, append-nil, arith, drop_of_length-le}
 use Rattle.rules.specs.Parts.{IsPart, part_named}
 use Rattle.rules.specs.Chip.{paged}
@@ -7,8 +7,8 @@ use Rattle.rules.specs.Answers.{refusal}
 use Rattle.rules.specs.Registers.{Width, Access}
 use Rattle.rules.specs.Step.{Input, driver, lent, step}
 use Rattle.wellformed.specs.Parts.{part_some}
-use Rattle.state.specs.declared.Answer.{Answer}
-use Rattle.state.specs.declared.Answer.TheVariants.{Done, Damaged}
+use Rattle.state.specs.Meaning.{Answer}
+use Rattle.state.specs.declared.Refusal.TheVariants.{Damaged}
 use Rattle.state.specs.Meaning.{reply_of}
 use Rattle.state.specs.Entry.{record_view, Whole, Leaves, zeros, StartedOf}
 use Rattle.chip.specs.Rights.{damaged, answered}
@@ -17,8 +17,8 @@ use Rattle.skarvoya.specs.Calls.{Calls, Refuses, PowersUp}
 
 module _ {w s q mem : List ℕ} {n : ℕ} where
   -- What is not in order is refused.
-  pub refuses : (i : Input) → (Whole w s q mem → ⊥) → n ≡ told (reply_of Damaged) → Calls i w s q mem n w s q mem (lent i)
-  refuses i broken e = record { answer = Damaged; entry = damaged i broken; returned = e }
+  pub refuses : (i : Input) → (Whole w s q mem → ⊥) → n ≡ told (reply_of (Err Damaged)) → Calls i w s q mem n w s q mem (lent i)
+  refuses i broken e = record { answer = (Err Damaged); entry = damaged i broken; returned = e }
 
   -- On what is, the step's answer is told.
   pub calls : (i : Input) {a : Answer} {w' s' q' mem' out' : List ℕ} → Whole w s q mem → Leaves (step i (record_view paged w s q mem)) a w' s' q' mem' out' → n ≡ told (reply_of a) → Calls i w s q mem n w' s' q' mem' out'
@@ -50,5 +50,5 @@ module _ {w s q mem : List ℕ} {n : ℕ} where
         record {
           unknown = λ z. absurd (omega (arith, e, part_some p, z));
           refused = λ h m. absurd (m (subst (λ (j : ℕ). LongAs j w s q mem) e o));
-          started = λ h m. subst (λ (j : ℕ). StartedOf paged j (Done 0) w' s' q' × (mem' ≡ zeros paged j) × (n ≡ 0)) e (x.state, x.memory ∙ ap (λ (l : List ℕ). zeros paged k ++ l) none ∙ append-nil (zeros paged k), r);
+          started = λ h m. subst (λ (j : ℕ). StartedOf paged j (Ok 0) w' s' q' × (mem' ≡ zeros paged j) × (n ≡ 0)) e (x.state, x.memory ∙ ap (λ (l : List ℕ). zeros paged k ++ l) none ∙ append-nil (zeros paged k), r);
         }

@@ -1,13 +1,12 @@
 -- What the functions of the chip promise, whatever was lent: what its public entries do, told by one number.
-use Rattle.std.specs.Prelude.{◌≡◌, List, ℕ, ◌<◌}
+use Rattle.std.specs.Prelude.{◌≡◌, List, ℕ, ◌<◌, Ok}
 use Rattle.rules.specs.Bits.{flag}
 use Rattle.rules.specs.Parts.{part_named}
 use Rattle.rules.specs.Chip.{paged}
 use Rattle.rules.specs.Answers.{refusal}
 use Rattle.rules.specs.Interrupts.{line_up}
 use Rattle.rules.specs.Step.{Input}
-use Rattle.state.specs.declared.Answer.{Answer}
-use Rattle.state.specs.declared.Answer.TheVariants.{Done}
+use Rattle.state.specs.Meaning.{Answer}
 use Rattle.state.specs.Meaning.{reply_of}
 use Rattle.state.specs.Entry.{record_view, Holds, AnswersOf, zeros, StartedOf}
 use Rattle.lent.specs.Lent.{told, LongAs}
@@ -31,7 +30,7 @@ pub record Refuses (number : ℕ) (w s q mem : List ℕ) (n : ℕ) (w' s' q' mem
 pub record PowersUp (x : ℕ) (w s q mem : List ℕ) (n : ℕ) (w' s' q' mem' : List ℕ) : Type 0 where
   pub unknown : part_named x ≡ 0 → Refuses 11 w s q mem n w' s' q' mem'
   pub refused : 0 < part_named x → (LongAs (part_named x) w s q mem → ⊥) → Refuses 16 w s q mem n w' s' q' mem'
-  pub started : 0 < part_named x → LongAs (part_named x) w s q mem → StartedOf paged (part_named x) (Done 0) w' s' q' × (mem' ≡ zeros paged (part_named x)) × (n ≡ 0)
+  pub started : 0 < part_named x → LongAs (part_named x) w s q mem → StartedOf paged (part_named x) (Ok 0) w' s' q' × (mem' ≡ zeros paged (part_named x)) × (n ≡ 0)
 
 -- the line of a record that is in order, as 1 or 0; of any other 16
 pub record ShowsLine (w s q : List ℕ) (n : ℕ) : Type 0 where

@@ -7,7 +7,7 @@ use Rattle.rules.specs.Parts.{part_named}
 use Rattle.rules.specs.Chip.{paged}
 use Rattle.rules.specs.Step.{Input}
 use Rattle.rules.specs.Bench.{Bench, Answered}
-use Rattle.state.specs.declared.Answer.{Answer}
+use Rattle.state.specs.Meaning.{Answer}
 use Rattle.state.specs.Meaning.{reply_of}
 use Rattle.state.specs.Entry.{size_in, Holds}
 use Rattle.state.proofs.Only.{one_record, only, started_once}

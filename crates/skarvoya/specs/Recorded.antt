@@ -1,5 +1,5 @@
 -- From what the bench's step, power-up and the printed line promise to what a record promises.
-use Rattle.std.specs.Prelude.{◌≡◌, refl, Bool, true, false, cond, List, [], ◌++◌, ℕ, ◌+◌, ◌*◌, ◌-◌, ◌≤◌, ◌<◌, eqb, ltb, length, take, drop, replicate}
+use Rattle.std.specs.Prelude.{◌≡◌, refl, Bool, true, false, cond, List, [], ◌++◌, ℕ, ◌+◌, ◌*◌, ◌-◌, ◌≤◌, ◌<◌, eqb, ltb, length, take, drop, replicate, Ok, Err}
 use Rattle.std.proofs.Common.{ap, ap₂, sym, subst, ◌∙◌, arith, lt-ltb, ne_eqb, eq-eqb, length-append, length-drop, length-take-le, take_all, take_at, drop_at}
 use Rattle.std.proofs.lemmas.List.{length-replicate}
 use Rattle.std.proofs.Math.Seq.{drop-append-add}
@@ -10,8 +10,8 @@ use Rattle.rules.specs.Bench.{Event, unknown, event_of, Bench, Answered, answer,
 use Rattle.lists.specs.Written.{Writes}
 use Rattle.wellformed.specs.Parts.{part_some, part_few}
 use Rattle.records.specs.Gathers.{holding}
-use Rattle.state.specs.declared.Answer.{Answer}
-use Rattle.state.specs.declared.Answer.TheVariants.{Done, CutShort}
+use Rattle.state.specs.Meaning.{Answer}
+use Rattle.state.specs.declared.Refusal.TheVariants.{CutShort}
 use Rattle.state.specs.View.{view}
 use Rattle.state.specs.Entry.{InOrder, Whole, size_in, record_view, zeros}
 use Rattle.state.specs.Places.{size_told, places_told, names_part, record_long, lent_in_order, holds_back, view_back, places_left}
@@ -82,7 +82,7 @@ module _ {w s q mem wire : List ℕ} {have : ℕ} (h : BenchHeld w s q mem wire 
       }
 
 -- A record cut short leaves all.
-pub cut_turns : {w s q mem wire : List ℕ} {have : ℕ} (h : BenchHeld w s q mem wire have) (out : List ℕ) {i : Event} → i ≡ unknown → TurnsBench (answer i (bench_of w s q mem wire have out)) mem CutShort w s q mem wire have out
+pub cut_turns : {w s q mem wire : List ℕ} {have : ℕ} (h : BenchHeld w s q mem wire have) (out : List ℕ) {i : Event} → i ≡ unknown → TurnsBench (answer i (bench_of w s q mem wire have out)) mem (Err CutShort) w s q mem wire have out
 unfolding answer
 cut_turns h out e = rw e (record { reply = refl; bench = refl; held = h; rest = refl })
 
@@ -127,7 +127,7 @@ module _ {w s q mem wire : List ℕ} {have : ℕ} (h : BenchHeld w s q mem wire 
   pub part_room : 256 * k ≤ length mem
   part_room = omega (arith, part_few p, h.full)
 
-  starts_bench : (out : List ℕ) {w' s' q' mem' : List ℕ} → StartsPart k mem w' s' q' mem' → TurnsBench (record { reply = done; after = started_as k (bench_of w s q mem wire have out) }) mem (Done 0) w' s' q' mem' wire 0 out
+  starts_bench : (out : List ℕ) {w' s' q' mem' : List ℕ} → StartsPart k mem w' s' q' mem' → TurnsBench (record { reply = done; after = started_as k (bench_of w s q mem wire have out) }) mem (Ok 0) w' s' q' mem' wire 0 out
   starts_bench out {w'} {s'} {q'} {mem'} x =
       let zero = length-replicate {A = ℕ} (256 * k) 0 in
       let size : k ≡ size_in w' = omega (arith, zero, x.state.whole.full) in
@@ -146,11 +146,11 @@ module _ {w s q mem wire : List ℕ} {have : ℕ} (h : BenchHeld w s q mem wire 
         rest = ap (behind_memory w') x.memory ∙ drop_at (zeros paged k) rest (256 * size_in w') long ∙ ap (λ (m : ℕ). drop (256 * m) mem) size;
       }
 
-  pub starts_part : (number : ℕ) (e : Event) → k ≡ part_started number e → (out : List ℕ) {w' s' q' mem' : List ℕ} → StartsPart k mem w' s' q' mem' → TurnsBench (answer_to number e (bench_of w s q mem wire have out)) mem (Done 0) w' s' q' mem' wire 0 out
+  pub starts_part : (number : ℕ) (e : Event) → k ≡ part_started number e → (out : List ℕ) {w' s' q' mem' : List ℕ} → StartsPart k mem w' s' q' mem' → TurnsBench (answer_to number e (bench_of w s q mem wire have out)) mem (Ok 0) w' s' q' mem' wire 0 out
   starts_part number e same out {w'} {s'} {q'} {mem'} x =
       let b = bench_of w s q mem wire have out in
       let told = answered_starts number e b (omega (arith, part_some p, same)) ∙ ap (λ (m : ℕ). record { reply = done; after = started_as m b }) (sym same) in
-      subst (λ (y : Answered). TurnsBench y mem (Done 0) w' s' q' mem' wire 0 out) (sym told) (starts_bench out x)
+      subst (λ (y : Answered). TurnsBench y mem (Ok 0) w' s' q' mem' wire 0 out) (sym told) (starts_bench out x)
 
 -- What is written to the front of a buffer leaves the rest of it.
 pub rest_stays : {before text after : List ℕ} {end : ℕ} → Writes before 0 text after end → drop end after ≡ drop end before

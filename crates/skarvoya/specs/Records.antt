@@ -4,7 +4,7 @@ use Rattle.rules.specs.Chip.{paged}
 use Rattle.rules.specs.Answers.{refusal}
 use Rattle.rules.specs.Bench.{Event, Bench, Answered, asks_for, answer_to, plain}
 use Rattle.records.specs.Gathers.{holding}
-use Rattle.state.specs.declared.Answer.{Answer}
+use Rattle.state.specs.Meaning.{Answer}
 use Rattle.state.specs.Meaning.{reply_of}
 use Rattle.state.specs.Entry.{size_in, record_view, Holds}
 use Rattle.turns.specs.Served.{asked}

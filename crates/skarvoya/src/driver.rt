@@ -6,7 +6,8 @@ ghost use Rattle.lent.specs.Lent.{wide};
 ghost use Rattle.skarvoya.specs.Calls.{Calls};
 
 use lent::{in_order, told, width_of};
-use state::Answer;
+use pages::Paged;
+use state::{Answer, Refusal};
 
 // Reads a word or a byte.
 pub fn skarvoya_read(
@@ -20,9 +21,9 @@ pub fn skarvoya_read(
     ensures { Calls (rules.driver (registers.read (wide word) offset)) words.old sets.now queues.now memory.now result words.new sets.now queues.now memory.now [] }
 {
     if !in_order(words, sets, queues, memory) {
-        return told(Answer::Damaged);
+        return told(Err(Refusal::Damaged));
     }
-    told(chip::read_whole(words, sets, queues, memory, width_of(word), offset))
+    told(chip::read_whole::<Paged>(words, sets, queues, memory, width_of(word), offset))
 }
 
 // Writes a word, or the value's low byte.
@@ -38,7 +39,7 @@ pub fn skarvoya_write(
     ensures { Calls (rules.driver (registers.write (wide word) offset value)) words.old sets.old queues.old memory.old result words.new sets.new queues.new memory.new [] }
 {
     if !in_order(words, sets, queues, memory) {
-        return told(Answer::Damaged);
+        return told(Err(Refusal::Damaged));
     }
-    told(chip::write_whole(words, sets, queues, memory, width_of(word), offset, value))
+    told(chip::write_whole::<Paged>(words, sets, queues, memory, width_of(word), offset, value))
 }

@@ -2,7 +2,7 @@
 ghost use Rattle.skarvoya.specs.Calls.{PowersUp, ShowsLine};
 
 use lent::{long_as, ready, started, told};
-use state::{Answer, Named};
+use state::{Answer, Refusal};
 
 // The part that a byte names, at power-up.
 pub fn skarvoya_power_up(
@@ -15,14 +15,14 @@ pub fn skarvoya_power_up(
     ensures { PowersUp part words.old sets.old queues.old memory.old result words.new sets.new queues.new memory.new }
 {
     match state::part_named(part) {
-        Named::Known(known) => {
+        Some(known) => {
             if !long_as(known, words, sets, queues, memory) {
-                return told(Answer::Damaged);
+                return told(Err(Refusal::Damaged));
             }
             started(words, sets, queues, memory, known);
-            told(Answer::Done(0))
+            told(Ok(0))
         }
-        Named::Unknown => told(Answer::OutsideLimits),
+        None => told(Err(Refusal::OutsideLimits)),
     }
 }
 
@@ -31,7 +31,7 @@ pub fn skarvoya_line(words: &[u16], sets: &[u32], queues: &[u8]) -> u32
     ensures { ShowsLine words.now sets.now queues.now result }
 {
     if !ready(words, sets, queues) {
-        return told(Answer::Damaged);
+        return told(Err(Refusal::Damaged));
     }
     if interrupts::line_up(words) { 1 } else { 0 }
 }

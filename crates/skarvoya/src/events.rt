@@ -5,7 +5,8 @@ ghost use Rattle.judging.specs.Frames.{frame_of};
 ghost use Rattle.skarvoya.specs.Calls.{Calls};
 
 use lent::{in_order, told};
-use state::Answer;
+use pages::Paged;
+use state::{Answer, Refusal};
 
 // A frame arrives: its bytes with FCS, and the flag alignment.
 pub fn skarvoya_frame(
@@ -19,9 +20,9 @@ pub fn skarvoya_frame(
     ensures { Calls (rules.frame (frame_of frame.now alignment)) words.old sets.old queues.old memory.old result words.new sets.new queues.new memory.new [] }
 {
     if !in_order(words, sets, queues, memory) {
-        return told(Answer::Damaged);
+        return told(Err(Refusal::Damaged));
     }
-    told(chip::arrived_whole(words, sets, queues, memory, frame, alignment))
+    told(chip::arrived_whole::<Paged>(words, sets, queues, memory, frame, alignment))
 }
 
 // The packet at the head of TX has been sent; what is put out goes to the front of the output buffer.
@@ -38,9 +39,9 @@ pub fn skarvoya_send(
     ensures { Calls (rules.sent (record { outcome = outcome; collisions = collisions; deferral = deferral }) output.old) words.old sets.old queues.old memory.old result words.new sets.new queues.new memory.new output.new }
 {
     if !in_order(words, sets, queues, memory) {
-        return told(Answer::Damaged);
+        return told(Err(Refusal::Damaged));
     }
-    told(chip::finished_whole(
+    told(chip::finished_whole::<Paged>(
         words, sets, queues, memory, output, outcome, collisions, deferral,
     ))
 }
@@ -50,7 +51,7 @@ pub fn skarvoya_link(words: &mut [u16], sets: &[u32], queues: &[u8], memory: &[u
     ensures { Calls (rules.link up) words.old sets.now queues.now memory.now result words.new sets.now queues.now memory.now [] }
 {
     if !in_order(words, sets, queues, memory) {
-        return told(Answer::Damaged);
+        return told(Err(Refusal::Damaged));
     }
-    told(chip::linked_whole(words, sets, queues, memory, up))
+    told(chip::linked_whole::<Paged>(words, sets, queues, memory, up))
 }

@@ -8,7 +8,8 @@ ghost use Rattle.skarvoya.specs.Records.{BenchHeld, BenchInOrder, Roomy, bench_o
 
 use lent::{ready, started, told};
 use on_wire::OUTPUT_BYTES;
-use state::{Answer, Named};
+use pages::Paged;
+use state::{Answer, Part, Refusal, Shown};
 
 // Room for the memory of either part.
 const MEMORY_BYTES: usize = 6144;
@@ -64,10 +65,10 @@ fn answer(
     ensures { TurnsBench (rules.answer (asked (take 8 bytes.now)) (bench_of words.old sets.old queues.old memory.old wire.old gathered.old output.old)) memory.old result words.new sets.new queues.new memory.new wire.new gathered.new output.new }
 {
     if bytes.len() < 8 {
-        return Answer::CutShort;
+        return Err(Refusal::CutShort);
     }
     let n = state::size_in(words);
-    turns::answer(
+    turns::answer::<Paged>(
         words,
         &mut sets[..n],
         queues,
@@ -80,14 +81,14 @@ fn answer(
 }
 
 // The part that the record of this number starts, if it starts one: the first alone may.
-fn part_started(number: u64, bytes: &[u8]) -> Named
+fn part_started(number: u64, bytes: &[u8]) -> Option<Part>
     ensures { packets_named result ≡ part_started number (asked (take 8 bytes.now)) }
 {
     if number != 1 {
-        return Named::Unknown;
+        return None;
     }
     if bytes.len() < 8 {
-        return Named::Unknown;
+        return None;
     }
     records::part_asked(&bytes[..8])
 }
@@ -108,12 +109,12 @@ fn turn(
     ensures { TurnsBench (rules.answer_to number (asked (take 8 bytes.now)) (bench_of words.old sets.old queues.old memory.old wire.old gathered.old output.old)) memory.old result words.new sets.new queues.new memory.new wire.new gathered.new output.new }
 {
     match part_started(number, bytes) {
-        Named::Known(part) => {
+        Some(part) => {
             started(words, sets, queues, memory, part);
             *gathered = 0;
-            Answer::Done(0)
+            Ok(0)
         }
-        Named::Unknown => answer(words, sets, queues, memory, wire, gathered, output, bytes),
+        None => answer(words, sets, queues, memory, wire, gathered, output, bytes),
     }
 }
 
@@ -138,7 +139,7 @@ fn serve(
         words, sets, queues, memory, wire, gathered, output, number, bytes,
     );
     let counter = lines::counter_of(number);
-    *printed = lines::line_at(line, 0, counter, state::printed(given));
+    *printed = lines::line_at(line, 0, counter, Shown::from(given));
     given
 }
 
@@ -170,10 +171,10 @@ pub fn skarvoya_record(
 {
     *printed = 0;
     if !bench_in_order(words, sets, queues, memory, wire, *gathered, *count) {
-        return told(Answer::Damaged);
+        return told(Err(Refusal::Damaged));
     }
     if !roomy(output, line) {
-        return told(Answer::ShortOutput);
+        return told(Err(Refusal::ShortOutput));
     }
     *count += 1;
     told(serve(

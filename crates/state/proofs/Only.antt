@@ -1,6 +1,6 @@
 -- A state is known from the chip that it stands for: its words from the registers and a count of the pool, its sets from their pages, its queues' bytes
 -- from their entries. So there is only one result of a public entry, and of a step below one: two that meet its promise are equal.
-use Rattle.std.specs.Prelude.{◌≡◌, refl, Bool, List, [], ◌∷◌, ◌++◌, map, ℕ, suc, ◌+◌, ◌*◌, ◌-◌, ◌/◌, ◌%◌, ◌<◌, length, get_or, take, drop, replicate}
+use Rattle.std.specs.Prelude.{◌≡◌, refl, Bool, List, [], ◌∷◌, ◌++◌, map, ℕ, suc, ◌+◌, ◌*◌, ◌-◌, ◌/◌, ◌%◌, ◌<◌, length, get_or, take, drop, replicate, Option, None, Some, Ok, Err}
 use Rattle.std.proofs.Common.{ap, ap₂, sym, ◌∙◌, arith, take-append-drop, length-drop, ext_get_or, take_all, drop-drop}
 use Rattle.rules.specs.Bits.{flag, word_of, word_at}
 use Rattle.rules.specs.Chip.{Chip}
@@ -14,11 +14,10 @@ use Rattle.sets.specs.Members.{set_of}
 use Rattle.sets.specs.Lists.{list_at, lists_length}
 use Rattle.queues.specs.Slots.{Slots}
 use Rattle.queues.specs.Parts.{slots, part_long}
-use Rattle.state.specs.declared.Answer.{Answer}
-use Rattle.state.specs.declared.Answer.TheVariants.{Done, Misplaced, NotModelled, ReadOnly, Reserved, NotAllocated, StillQueued, RxEmpty, AgainstRead, OddPointer, PastPages, OutsideLimits, NothingToSend, OddCount, CompletionFull, ShortOutput, Damaged, CutShort, ShortCount, LongCount}
+use Rattle.state.specs.Meaning.{Answer}
+use Rattle.state.specs.declared.Refusal.TheVariants.{Misplaced, NotModelled, ReadOnly, Reserved, NotAllocated, StillQueued, RxEmpty, AgainstRead, OddPointer, PastPages, OutsideLimits, NothingToSend, OddCount, CompletionFull, ShortOutput, Damaged, CutShort, ShortCount, LongCount}
 use Rattle.state.specs.declared.part.Part.TheVariants as part
-use Rattle.state.specs.declared.part.Named.{Named}
-use Rattle.state.specs.declared.part.Named.TheVariants as named
+use Rattle.state.specs.declared.part.Part.{Part}
 use Rattle.state.specs.Meaning.{packets_named, reply_of}
 use Rattle.state.specs.View.{word, registers_in, figures, queue_in, strips_from, lists_of, pool_of, view_of, FixedIn, BlankIn, Kept}
 use Rattle.state.specs.Written.{Written, written_out}

@@ -1,5 +1,6 @@
 -- Records with one wrong figure, with a third bit in the link's word, and with an allocation that may not wait, computed: none is in order, so every entry that promises `Answers` gives 16.
 -- RX has packet 0 with pages 0 and 1, TX packet 17 with page 2.
+use Rattle.std.specs.Prelude.{Err}
 use mathlib.Core.Path.{◌≡◌, refl, ap, sym, ◌∙◌}
 use mathlib.Core.Bool.{true, false, true≢false}
 use mathlib.Core.Logic.{inr, ⊎_elim}
@@ -17,7 +18,7 @@ use Rattle.lists.specs.Each.{each_at}
 use Rattle.wellformed.specs.Fit.{below_decides, formed_decides}
 use Rattle.sets.specs.Views.{pages_of, bits_below}
 use Rattle.sets.specs.Members.{set_of}
-use Rattle.state.specs.declared.Answer.TheVariants.{Damaged}
+use Rattle.state.specs.declared.Refusal.TheVariants.{Damaged}
 use Rattle.state.specs.declared.Returned.{Returned}
 use Rattle.state.specs.View.{figures, pool_in, view}
 use Rattle.state.specs.Promise.{Small, Ready}
@@ -79,7 +80,7 @@ ready = record {
 abbrev Refused : List ℕ → List ℕ → List ℕ → Type 0
 Refused w s q =
     (i : Input) (mem : List ℕ) (y : Returned) (mem' out' : List ℕ)
-    → Answers i (record { words = w }) (record { sets = s }) (record { slots = q }) mem y mem' out' → y.answer ≡ Damaged
+    → Answers i (record { words = w }) (record { sets = s }) (record { slots = q }) mem y mem' out' → y.answer ≡ Err Damaged
 
 gets_16 : (w s q : List ℕ) → (Ready w (of_part w s) q → ⊥) → Refused w s q
 gets_16 w s q n i mem y mem' out' a = (a.broken (λ o. n o.holds.ready)).answer

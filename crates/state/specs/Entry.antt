@@ -1,12 +1,12 @@
 -- What the steps and the public entries promise, of the chip of pages and of that of strips, for any input. A step below a public entry is lent a number for each packet of the part; a public entry takes
 -- a record with places for 24, which names its part, and answers what is not in order with refusal 16. And power-up, and the line.
-use Rattle.std.specs.Prelude.{◌≡◌, Bool, false, List, ℕ, ◌*◌, ◌-◌, ◌%◌, length, take, drop, replicate}
+use Rattle.std.specs.Prelude.{◌≡◌, Bool, false, List, ℕ, ◌*◌, ◌-◌, ◌%◌, length, take, drop, replicate, Ok, Err}
 use Rattle.rules.specs.Chip.{Layout, paged, Chip, page_numbers, powered}
 use Rattle.rules.specs.Answers.{Turn}
 use Rattle.rules.specs.Interrupts.{line_up}
 use Rattle.rules.specs.Step.{Input, lent, step}
-use Rattle.state.specs.declared.Answer.{Answer}
-use Rattle.state.specs.declared.Answer.TheVariants.{Done, Damaged}
+use Rattle.state.specs.Meaning.{Answer}
+use Rattle.state.specs.declared.Refusal.TheVariants.{Damaged}
 use Rattle.state.specs.declared.Registers.{Registers}
 use Rattle.state.specs.declared.Pages.{Pages}
 use Rattle.state.specs.declared.Queues.{Queues}
@@ -65,7 +65,7 @@ pub record LeavesOf (l : Layout) (t : Turn) (a : Answer) (w s q mem out : List �
 
 -- refusal 16, and nothing changes
 pub record Broken (w s q mem out : List ℕ) (a : Answer) (w' s' q' mem' out' : List ℕ) : Type 0 where
-  pub answer : a ≡ Damaged
+  pub answer : a ≡ Err Damaged
   pub words : w' ≡ w
   pub pages : s' ≡ s
   pub queues : q' ≡ q
@@ -82,7 +82,7 @@ abbrev pub zeros : Layout → ℕ → List ℕ
 zeros l n = replicate (256 * page_numbers l n) 0
 
 pub record StartedOf (l : Layout) (n : ℕ) (a : Answer) (w s q : List ℕ) : Type 0 where
-  pub answer : a ≡ Done 0
+  pub answer : a ≡ Ok 0
   pub chip : record_view l w s q (zeros l n) ≡ powered l n
   pub whole : WholeOf l w s q (zeros l n)
 

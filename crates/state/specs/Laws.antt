@@ -1,5 +1,5 @@
 -- The registers by place, and what a read and a write of each comes to over the words: a line or two for each.
-use Rattle.std.specs.Prelude.{◌≡◌, refl, List, ℕ, ◌+◌, ◌*◌, ◌/◌, ◌%◌, ◌<◌}
+use Rattle.std.specs.Prelude.{◌≡◌, refl, List, ℕ, ◌+◌, ◌*◌, ◌/◌, ◌%◌, ◌<◌, Ok, Err}
 use Rattle.std.proofs.Math.Path.{ap}
 use Rattle.std.proofs.Common.{sym, ◌∙◌, arith}
 use Rattle.rules.specs.Bits.{bit, low_byte, high_byte, word_of, word_at}
@@ -7,7 +7,7 @@ use Rattle.rules.specs.Answers.{done_with}
 use Rattle.rules.specs.Chip.{Layout}
 use Rattle.rules.specs.Link.{shown}
 use Rattle.rules.specs.Registers.{Register, Lanes, low, high, both, TCR, EPHSR, RCR, RESERVED, STATION, CONTROL, COMMAND, PACKET, POINTER, TABLE, BANK, UNUSED, ABSENT, register_at, taken, read_register}
-use Rattle.state.specs.declared.Answer.TheVariants.{Done, NotModelled}
+use Rattle.state.specs.declared.Refusal.TheVariants.{NotModelled}
 use Rattle.state.specs.View.{word, view_of, Kept}
 use Rattle.state.specs.Promise.{Does}
 
@@ -25,7 +25,7 @@ decoded bank offset h =
 
 -- a read that gives a word and changes nothing
 abbrev pub Shows : Register → Lanes → List ℕ → ℕ → Type 0
-Shows k p w x = Does (read_register k p) w (Done (taken p x)) w
+Shows k p w x = Does (read_register k p) w (Ok (taken p x)) w
 
 halves : (x : ℕ) → x ≡ word_of (x % 256) (x / 256)
 unfolding word_of
@@ -115,6 +115,6 @@ module _ (p : Lanes) (w : List ℕ) (h : Kept w) where
   unfolding read_register
   reads_unused = shows UNUSED p w _ h (λ l s q mem. refl)
 
-  pub reads_absent : Does (read_register ABSENT p) w NotModelled w
+  pub reads_absent : Does (read_register ABSENT p) w (Err NotModelled) w
   unfolding read_register
   reads_absent = record { step = λ l s q mem. refl; still = refl; kept = h }

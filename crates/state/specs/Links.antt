@@ -1,5 +1,5 @@
 -- The word of the link: its two bits, and what a link event comes to over the words.
-use Rattle.std.specs.Prelude.{◌≡◌, refl, false, ◌||◌, List, ℕ, zero, suc, ◌+◌, ◌*◌, ◌/◌, ◌%◌, ◌^◌, ◌≤◌, ◌<◌, eqb, ltb, set}
+use Rattle.std.specs.Prelude.{◌≡◌, refl, false, ◌||◌, List, ℕ, zero, suc, ◌+◌, ◌*◌, ◌/◌, ◌%◌, ◌^◌, ◌≤◌, ◌<◌, eqb, ltb, set, Ok, Err}
 use Rattle.std.proofs.Common.{ap, ◌∙◌, arith, lt-ltb, le-ltb}
 use Rattle.std.proofs.Math.Path.{sym}
 use Rattle.std.proofs.Math.Bool.{xor}
@@ -8,7 +8,7 @@ use Rattle.rules.specs.Chip.{Link}
 use Rattle.rules.specs.Fields.{set_link}
 use Rattle.rules.specs.Link.{relink, plug}
 use Rattle.bits.specs.Laws.{bit_zero}
-use Rattle.state.specs.declared.Answer.TheVariants.{Done, OutsideLimits}
+use Rattle.state.specs.declared.Refusal.TheVariants.{OutsideLimits}
 use Rattle.state.specs.View.{word, registers_in, Kept}
 use Rattle.state.specs.Promise.{Does, does_sets, sets_as}
 use Rattle.state.specs.Stores.{store_link}
@@ -59,15 +59,15 @@ another (suc (suc x)) y l h n = absurd (omega arith)
 
 -- A link event: outside its limits, the same state again, and another.
 module _ (x : ℕ) (w : List ℕ) (k : Kept w) where
-  pub plug_outside : 1 < x → Does (plug x) w OutsideLimits w
+  pub plug_outside : 1 < x → Does (plug x) w (Err OutsideLimits) w
   unfolding plug
   plug_outside h = record { step = λ l s q mem. rw (lt-ltb 1 x h) refl; still = refl; kept = k }
 
-  pub plug_same : x ≤ 1 → word w 15 % 2 ≡ x → Does (plug x) w (Done 0) w
+  pub plug_same : x ≤ 1 → word w 15 % 2 ≡ x → Does (plug x) w (Ok 0) w
   unfolding plug
   plug_same h e = record { step = λ l s q mem. rw (le-ltb 1 x h, same_again x (word w 15) k.fixed.link_bits e) refl; still = refl; kept = k }
 
-  pub plug_other : (new : ℕ) → new ≡ 2 + x → x ≤ 1 → (word w 15 % 2 ≡ x → ⊥) → Does (plug x) w (Done 0) (set w 15 new)
+  pub plug_other : (new : ℕ) → new ≡ 2 + x → x ≤ 1 → (word w 15 % 2 ≡ x → ⊥) → Does (plug x) w (Ok 0) (set w 15 new)
   unfolding plug
   plug_other new right h n =
       let stored = store_link new (omega (arith, right, h)) w k in

@@ -1,5 +1,5 @@
 -- What the enums of this crate stand for in `rules`, and the parts of a word.
-use Rattle.std.specs.Prelude.{◌≡◌, Bool, true, false, ℕ, ◌/◌, ◌%◌}
+use Rattle.std.specs.Prelude.{◌≡◌, Bool, true, false, ℕ, ◌/◌, ◌%◌, Option, None, Some, Result, Ok, Err}
 use Rattle.rules.specs.Answers.{Reply, refusal, refusal_with}
 use Rattle.rules.specs.Parts.{lan91c94, lan91c96}
 use Rattle.rules.specs.Registers as rules
@@ -7,10 +7,8 @@ use Rattle.state.specs.declared.Width.{Width}
 use Rattle.state.specs.declared.Width.TheVariants as width
 use Rattle.state.specs.declared.part.Part.{Part}
 use Rattle.state.specs.declared.part.Part.TheVariants as part
-use Rattle.state.specs.declared.part.Named.{Named}
-use Rattle.state.specs.declared.part.Named.TheVariants as named
-use Rattle.state.specs.declared.Answer.{Answer}
-use Rattle.state.specs.declared.Answer.TheVariants.{Done, Misplaced, NotModelled, ReadOnly, Reserved, NotAllocated, StillQueued, RxEmpty, AgainstRead, OddPointer, PastPages, OutsideLimits, NothingToSend, OddCount, CompletionFull, ShortOutput, Damaged, CutShort, ShortCount, LongCount}
+use Rattle.state.specs.declared.Refusal.{Refusal}
+use Rattle.state.specs.declared.Refusal.TheVariants.{Misplaced, NotModelled, ReadOnly, Reserved, NotAllocated, StillQueued, RxEmpty, AgainstRead, OddPointer, PastPages, OutsideLimits, NothingToSend, OddCount, CompletionFull, ShortOutput, Damaged, CutShort, ShortCount, LongCount}
 
 abbrev pub width_of : Width → rules.Width
 width_of width.Byte = rules.byte
@@ -22,32 +20,36 @@ packets_of part.Lan91c94 = lan91c94
 packets_of part.Lan91c96 = lan91c96
 
 -- how many packets the part has that is named, 0 where none is
-abbrev pub packets_named : Named → ℕ
-packets_named (named.Known p) = packets_of p
-packets_named named.Unknown = 0
+abbrev pub packets_named : Option Part → ℕ
+packets_named (Some p) = packets_of p
+packets_named None = 0
+
+-- what a step answers: done, with a value, or a refusal
+abbrev pub Answer : Type 0
+Answer = Result ℕ Refusal
 
 -- document 01's number and value of an answer; 13, 18 and 19 have the byte count as their value (document 02, W2)
 abbrev pub reply_of : Answer → Reply
-reply_of (Done v) = record { number = 0; value = v }
-reply_of Misplaced = refusal 1
-reply_of NotModelled = refusal 2
-reply_of ReadOnly = refusal 3
-reply_of Reserved = refusal 4
-reply_of NotAllocated = refusal 5
-reply_of StillQueued = refusal 6
-reply_of RxEmpty = refusal 7
-reply_of AgainstRead = refusal 8
-reply_of OddPointer = refusal 9
-reply_of PastPages = refusal 10
-reply_of OutsideLimits = refusal 11
-reply_of NothingToSend = refusal 12
-reply_of (OddCount v) = refusal_with 13 v
-reply_of CompletionFull = refusal 14
-reply_of ShortOutput = refusal 15
-reply_of Damaged = refusal 16
-reply_of CutShort = refusal 17
-reply_of (ShortCount v) = refusal_with 18 v
-reply_of (LongCount v) = refusal_with 19 v
+reply_of (Ok v) = record { number = 0; value = v }
+reply_of (Err Misplaced) = refusal 1
+reply_of (Err NotModelled) = refusal 2
+reply_of (Err ReadOnly) = refusal 3
+reply_of (Err Reserved) = refusal 4
+reply_of (Err NotAllocated) = refusal 5
+reply_of (Err StillQueued) = refusal 6
+reply_of (Err RxEmpty) = refusal 7
+reply_of (Err AgainstRead) = refusal 8
+reply_of (Err OddPointer) = refusal 9
+reply_of (Err PastPages) = refusal 10
+reply_of (Err OutsideLimits) = refusal 11
+reply_of (Err NothingToSend) = refusal 12
+reply_of (Err (OddCount v)) = refusal_with 13 v
+reply_of (Err CompletionFull) = refusal 14
+reply_of (Err ShortOutput) = refusal 15
+reply_of (Err Damaged) = refusal 16
+reply_of (Err CutShort) = refusal 17
+reply_of (Err (ShortCount v)) = refusal_with 18 v
+reply_of (Err (LongCount v)) = refusal_with 19 v
 
 -- no refusal 1
 abbrev pub Placed : Width → ℕ → Type 0

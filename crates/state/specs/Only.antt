@@ -1,6 +1,6 @@
 -- A state is known from the chip that it stands for: its words from the registers and a count of the pool, its sets from their pages, its queues' bytes
 -- from their entries. So there is only one result of a public entry, and of a step below one: two that meet its promise are equal.
-use Rattle.std.specs.Prelude.{◌≡◌, refl, Bool, List, [], ◌∷◌, ◌++◌, map, ℕ, suc, ◌+◌, ◌*◌, ◌-◌, ◌/◌, ◌%◌, ◌<◌, length, get_or, take, drop, replicate}
+use Rattle.std.specs.Prelude.{◌≡◌, refl, Bool, List, [], ◌∷◌, ◌++◌, map, ℕ, suc, ◌+◌, ◌*◌, ◌-◌, ◌/◌, ◌%◌, ◌<◌, length, get_or, take, drop, replicate, Option, None, Some, Ok, Err}
 use Rattle.std.proofs.Common.{ap, ap₂, sym, ◌∙◌, arith, take-append-drop, length-drop, ext_get_or, take_all, drop-drop}
 use Rattle.rules.specs.Bits.{flag, word_of, word_at}
 use Rattle.rules.specs.Chip.{Chip}
@@ -14,11 +14,10 @@ use Rattle.sets.specs.Members.{set_of}
 use Rattle.sets.specs.Lists.{list_at, lists_length}
 use Rattle.queues.specs.Slots.{Slots}
 use Rattle.queues.specs.Parts.{slots, part_long}
-use Rattle.state.specs.declared.Answer.{Answer}
-use Rattle.state.specs.declared.Answer.TheVariants.{Done, Misplaced, NotModelled, ReadOnly, Reserved, NotAllocated, StillQueued, RxEmpty, AgainstRead, OddPointer, PastPages, OutsideLimits, NothingToSend, OddCount, CompletionFull, ShortOutput, Damaged, CutShort, ShortCount, LongCount}
+use Rattle.state.specs.Meaning.{Answer}
+use Rattle.state.specs.declared.Refusal.TheVariants.{Misplaced, NotModelled, ReadOnly, Reserved, NotAllocated, StillQueued, RxEmpty, AgainstRead, OddPointer, PastPages, OutsideLimits, NothingToSend, OddCount, CompletionFull, ShortOutput, Damaged, CutShort, ShortCount, LongCount}
 use Rattle.state.specs.declared.part.Part.TheVariants as part
-use Rattle.state.specs.declared.part.Named.{Named}
-use Rattle.state.specs.declared.part.Named.TheVariants as named
+use Rattle.state.specs.declared.part.Part.{Part}
 use Rattle.state.specs.Meaning.{packets_named, reply_of}
 use Rattle.state.specs.View.{word, registers_in, figures, queue_in, strips_from, lists_of, pool_of, view_of, FixedIn, BlankIn, Kept}
 use Rattle.state.specs.Written.{Written, written_out}
@@ -125,65 +124,65 @@ numbers_known rules.strips s t f g e = strips_known 0 s t e
 answer_of : Reply → Answer
 answer_of x =
     get_or
-    (Done x.value
-    ∷ Misplaced
-    ∷ NotModelled
-    ∷ ReadOnly
-    ∷ Reserved
-    ∷ NotAllocated
-    ∷ StillQueued
-    ∷ RxEmpty
-    ∷ AgainstRead
-    ∷ OddPointer
-    ∷ PastPages
-    ∷ OutsideLimits
-    ∷ NothingToSend
-    ∷ OddCount x.value
-    ∷ CompletionFull
-    ∷ ShortOutput
-    ∷ Damaged
-    ∷ CutShort
-    ∷ ShortCount x.value
-    ∷ LongCount x.value
-    ∷ []) x.number Damaged
+    (Ok x.value
+    ∷ Err Misplaced
+    ∷ Err NotModelled
+    ∷ Err ReadOnly
+    ∷ Err Reserved
+    ∷ Err NotAllocated
+    ∷ Err StillQueued
+    ∷ Err RxEmpty
+    ∷ Err AgainstRead
+    ∷ Err OddPointer
+    ∷ Err PastPages
+    ∷ Err OutsideLimits
+    ∷ Err NothingToSend
+    ∷ Err (OddCount x.value)
+    ∷ Err CompletionFull
+    ∷ Err ShortOutput
+    ∷ Err Damaged
+    ∷ Err CutShort
+    ∷ Err (ShortCount x.value)
+    ∷ Err (LongCount x.value)
+    ∷ []) x.number (Err Damaged)
 
 answer_back : (a : Answer) → answer_of (reply_of a) ≡ a
 unfolding answer_of
-answer_back (Done v) = refl
-answer_back Misplaced = refl
-answer_back NotModelled = refl
-answer_back ReadOnly = refl
-answer_back Reserved = refl
-answer_back NotAllocated = refl
-answer_back StillQueued = refl
-answer_back RxEmpty = refl
-answer_back AgainstRead = refl
-answer_back OddPointer = refl
-answer_back PastPages = refl
-answer_back OutsideLimits = refl
-answer_back NothingToSend = refl
-answer_back (OddCount v) = refl
-answer_back CompletionFull = refl
-answer_back ShortOutput = refl
-answer_back Damaged = refl
-answer_back CutShort = refl
-answer_back (ShortCount v) = refl
-answer_back (LongCount v) = refl
+answer_back (Ok v) = refl
+answer_back (Err Misplaced) = refl
+answer_back (Err NotModelled) = refl
+answer_back (Err ReadOnly) = refl
+answer_back (Err Reserved) = refl
+answer_back (Err NotAllocated) = refl
+answer_back (Err StillQueued) = refl
+answer_back (Err RxEmpty) = refl
+answer_back (Err AgainstRead) = refl
+answer_back (Err OddPointer) = refl
+answer_back (Err PastPages) = refl
+answer_back (Err OutsideLimits) = refl
+answer_back (Err NothingToSend) = refl
+answer_back (Err (OddCount v)) = refl
+answer_back (Err CompletionFull) = refl
+answer_back (Err ShortOutput) = refl
+answer_back (Err Damaged) = refl
+answer_back (Err CutShort) = refl
+answer_back (Err (ShortCount v)) = refl
+answer_back (Err (LongCount v)) = refl
 
 pub one_answer : (a b : Answer) → reply_of a ≡ reply_of b → a ≡ b
 one_answer a b e = sym (answer_back a) ∙ ap answer_of e ∙ answer_back b
 
 -- What a byte names is known from its number of packets.
-pub named_once : (x y : Named) → packets_named x ≡ packets_named y → x ≡ y
-named_once (named.Known part.Lan91c94) (named.Known part.Lan91c94) e = refl
-named_once (named.Known part.Lan91c96) (named.Known part.Lan91c96) e = refl
-named_once named.Unknown named.Unknown e = refl
-named_once (named.Known part.Lan91c94) (named.Known part.Lan91c96) e = absurd (omega (arith, e))
-named_once (named.Known part.Lan91c94) named.Unknown e = absurd (omega (arith, e))
-named_once (named.Known part.Lan91c96) (named.Known part.Lan91c94) e = absurd (omega (arith, e))
-named_once (named.Known part.Lan91c96) named.Unknown e = absurd (omega (arith, e))
-named_once named.Unknown (named.Known part.Lan91c94) e = absurd (omega (arith, e))
-named_once named.Unknown (named.Known part.Lan91c96) e = absurd (omega (arith, e))
+pub named_once : (x y : Option Part) → packets_named x ≡ packets_named y → x ≡ y
+named_once (Some part.Lan91c94) (Some part.Lan91c94) e = refl
+named_once (Some part.Lan91c96) (Some part.Lan91c96) e = refl
+named_once None None e = refl
+named_once (Some part.Lan91c94) (Some part.Lan91c96) e = absurd (omega (arith, e))
+named_once (Some part.Lan91c94) None e = absurd (omega (arith, e))
+named_once (Some part.Lan91c96) (Some part.Lan91c94) e = absurd (omega (arith, e))
+named_once (Some part.Lan91c96) None e = absurd (omega (arith, e))
+named_once None (Some part.Lan91c94) e = absurd (omega (arith, e))
+named_once None (Some part.Lan91c96) e = absurd (omega (arith, e))
 
 pub line_once : (l : rules.Layout) (w s q : List ℕ) {a b : Bool} → LinesOf l w s q a → LinesOf l w s q b → a ≡ b
 line_once l w s q {a} {b} x y = go (holds? l w s q)

@@ -10,7 +10,7 @@ use Rattle.rules.specs.Answers.{Turn}
 use Rattle.wellformed.specs.Parts.{part_few}
 use Rattle.sets.specs.Views.{pages_of}
 use Rattle.sets.specs.Pages.{pages_none}
-use Rattle.state.specs.declared.Answer.{Answer}
+use Rattle.state.specs.Meaning.{Answer}
 use Rattle.state.specs.View.{view_of}
 use Rattle.state.specs.Promise.{SoundOf, ReadyOf}
 use Rattle.state.specs.Entry.{InOrderOf, RightOf, size_in, of_part, record_view, HoldsOf, WholeOf, LeavesOf}

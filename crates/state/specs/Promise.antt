@@ -1,5 +1,5 @@
 -- What a step over the lent state promises.
-use Rattle.std.specs.Prelude.{◌≡◌, List, ℕ, ◌/◌, ◌%◌, ◌^◌, ◌<◌, length, get_or}
+use Rattle.std.specs.Prelude.{◌≡◌, List, ℕ, ◌/◌, ◌%◌, ◌^◌, ◌<◌, length, get_or, Ok}
 use Rattle.std.proofs.Common.{ap, sym, subst, ◌∙◌}
 use Rattle.rules.specs.Bits.{word_of}
 use Rattle.rules.specs.Parts.{IsPart}
@@ -10,8 +10,7 @@ use Rattle.rules.specs.WellFormed.{Formed}
 use Rattle.sets.specs.Members.{set_of}
 use Rattle.queues.specs.Slots.{Slots}
 use Rattle.queues.specs.Parts.{slots}
-use Rattle.state.specs.declared.Answer.{Answer}
-use Rattle.state.specs.declared.Answer.TheVariants.{Done}
+use Rattle.state.specs.Meaning.{Answer}
 use Rattle.state.specs.Meaning.{reply_of}
 use Rattle.state.specs.View.{word, registers_in, figures, queue_in, lists_of, pool_of, view_of, Kept}
 
@@ -98,7 +97,7 @@ pub record Does (f : Chip → Effect) (w : List ℕ) (a : Answer) (w' : List ℕ
   pub still : figures w' ≡ figures w
   pub kept : Kept w'
 
-pub does_sets : {f : Registers → Registers} {w w' : List ℕ} → Sets f w w' → Does (λ c. did (in_registers f c)) w (Done 0) w'
+pub does_sets : {f : Registers → Registers} {w w' : List ℕ} → Sets f w w' → Does (λ c. did (in_registers f c)) w (Ok 0) w'
 does_sets a = record { step = λ l s q mem. ap did (sets_chip a l s q mem); still = a.still; kept = a.kept }
 
 pub does_makes : {l : Layout} {f : Chip → Effect} {w w' s q : List ℕ} {a : Answer} → Does f w a w' → SoundOf l w s q → (mem : List ℕ) → MakesOf l (f (view_of l w s q mem)) a w' s q mem

@@ -1,5 +1,5 @@
 -- What a write of each register comes to over the words, and a read of ECR.
-use Rattle.std.specs.Prelude.{◌≡◌, refl, Bool, true, false, cond, List, ℕ, ◌+◌, ◌*◌, ◌/◌, ◌%◌, set}
+use Rattle.std.specs.Prelude.{◌≡◌, refl, Bool, true, false, cond, List, ℕ, ◌+◌, ◌*◌, ◌/◌, ◌%◌, set, Ok, Err}
 use Rattle.std.proofs.Common.{ap, sym, ◌∙◌, arith}
 use Rattle.rules.specs.Bits.{bit, clear_bit, low_byte}
 use Rattle.rules.specs.Chip.{Link, Registers, Layout, Chip}
@@ -7,8 +7,8 @@ use Rattle.rules.specs.Fields.{set_tcr, set_ephsr, set_ecr, set_control, set_poi
 use Rattle.rules.specs.Answers.{Effect, did, done_with, refuse}
 use Rattle.rules.specs.Link.{forget_change}
 use Rattle.rules.specs.Registers.{Register, Lanes, TCR, EPHSR, RCR, ECR, MIR, RESERVED, STATION, CONTROL, PACKET, HEADS, POINTER, TABLE, BANK, UNUSED, ABSENT, low, high, both, taken, forgotten, clear_ecr, write_tcr, new_rcr, write_rcr, low_only, read_register, write_register}
-use Rattle.state.specs.declared.Answer.{Answer}
-use Rattle.state.specs.declared.Answer.TheVariants.{Done, NotModelled, ReadOnly}
+use Rattle.state.specs.Meaning.{Answer}
+use Rattle.state.specs.declared.Refusal.TheVariants.{NotModelled, ReadOnly}
 use Rattle.state.specs.Meaning.{reply_of, is_high, Joined}
 use Rattle.state.specs.View.{word, registers_in, view_of, Kept}
 use Rattle.state.specs.Promise.{Sets, sets_both, sets_as, sets_chip, Does, does_sets}
@@ -17,7 +17,7 @@ use Rattle.state.specs.Links.{forgets}
 
 -- A register that is a word, or two bytes of a list.
 abbrev pub Plain : Register → ℕ → Type 0
-Plain r at = (p : Lanes) (v new : ℕ) (w : List ℕ) → Kept w → Joined p v (word w at) new → Does (write_register r p v) w (Done 0) (set w at new)
+Plain r at = (p : Lanes) (v new : ℕ) (w : List ℕ) → Kept w → Joined p v (word w at) new → Does (write_register r p v) w (Ok 0) (set w at new)
 
 pub writes_pointer : Plain POINTER 19
 unfolding write_register
@@ -63,47 +63,47 @@ low_only_lem high c e = refl
 low_only_lem both c e = refl
 
 module _ (p : Lanes) (v : ℕ) (w : List ℕ) (k : Kept w) where
-  pub writes_ephsr : Does (write_register EPHSR p v) w ReadOnly w
+  pub writes_ephsr : Does (write_register EPHSR p v) w (Err ReadOnly) w
   unfolding write_register
-  writes_ephsr = unchanged _ ReadOnly w k (λ l s q mem. refl)
+  writes_ephsr = unchanged _ (Err ReadOnly) w k (λ l s q mem. refl)
 
-  pub writes_ecr : Does (write_register ECR p v) w ReadOnly w
+  pub writes_ecr : Does (write_register ECR p v) w (Err ReadOnly) w
   unfolding write_register
-  writes_ecr = unchanged _ ReadOnly w k (λ l s q mem. refl)
+  writes_ecr = unchanged _ (Err ReadOnly) w k (λ l s q mem. refl)
 
-  pub writes_mir : Does (write_register MIR p v) w ReadOnly w
+  pub writes_mir : Does (write_register MIR p v) w (Err ReadOnly) w
   unfolding write_register
-  writes_mir = unchanged _ ReadOnly w k (λ l s q mem. refl)
+  writes_mir = unchanged _ (Err ReadOnly) w k (λ l s q mem. refl)
 
-  pub writes_heads : Does (write_register HEADS p v) w ReadOnly w
+  pub writes_heads : Does (write_register HEADS p v) w (Err ReadOnly) w
   unfolding write_register
-  writes_heads = unchanged _ ReadOnly w k (λ l s q mem. refl)
+  writes_heads = unchanged _ (Err ReadOnly) w k (λ l s q mem. refl)
 
-  pub writes_unused : Does (write_register UNUSED p v) w (Done 0) w
+  pub writes_unused : Does (write_register UNUSED p v) w (Ok 0) w
   unfolding write_register
-  writes_unused = unchanged _ (Done 0) w k (λ l s q mem. refl)
+  writes_unused = unchanged _ (Ok 0) w k (λ l s q mem. refl)
 
-  pub writes_absent : Does (write_register ABSENT p v) w NotModelled w
+  pub writes_absent : Does (write_register ABSENT p v) w (Err NotModelled) w
   unfolding write_register
-  writes_absent = unchanged _ NotModelled w k (λ l s q mem. refl)
+  writes_absent = unchanged _ (Err NotModelled) w k (λ l s q mem. refl)
 
-  pub reserved_high_lem : is_high p ≡ true → Does (write_register RESERVED p v) w ReadOnly w
+  pub reserved_high_lem : is_high p ≡ true → Does (write_register RESERVED p v) w (Err ReadOnly) w
   unfolding write_register
-  reserved_high_lem e = unchanged _ ReadOnly w k (λ l s q mem. rw (low_only_lem, e) refl)
+  reserved_high_lem e = unchanged _ (Err ReadOnly) w k (λ l s q mem. rw (low_only_lem, e) refl)
 
-  pub packet_high : is_high p ≡ true → Does (write_register PACKET p v) w ReadOnly w
+  pub packet_high : is_high p ≡ true → Does (write_register PACKET p v) w (Err ReadOnly) w
   unfolding write_register
-  packet_high e = unchanged _ ReadOnly w k (λ l s q mem. rw (low_only_lem, e) refl)
+  packet_high e = unchanged _ (Err ReadOnly) w k (λ l s q mem. rw (low_only_lem, e) refl)
 
-  pub bank_high_lem : is_high p ≡ true → Does (write_register BANK p v) w ReadOnly w
+  pub bank_high_lem : is_high p ≡ true → Does (write_register BANK p v) w (Err ReadOnly) w
   unfolding write_register
-  bank_high_lem e = unchanged _ ReadOnly w k (λ l s q mem. rw (low_only_lem, e) refl)
+  bank_high_lem e = unchanged _ (Err ReadOnly) w k (λ l s q mem. rw (low_only_lem, e) refl)
 
 -- The low byte alone.
 abbrev pub Low : Register → ℕ → (ℕ → ℕ) → Type 0
-Low r at f = (p : Lanes) (v : ℕ) → is_high p ≡ false → (new : ℕ) (w : List ℕ) → Kept w → new ≡ word w at / 256 * 256 + f v → Does (write_register r p v) w (Done 0) (set w at new)
+Low r at f = (p : Lanes) (v : ℕ) → is_high p ≡ false → (new : ℕ) (w : List ℕ) → Kept w → new ≡ word w at / 256 * 256 + f v → Does (write_register r p v) w (Ok 0) (set w at new)
 
-low_does : {f : Registers → Registers} {w w' : List ℕ} (p : Lanes) → is_high p ≡ false → Sets f w w' → Does (λ c. low_only p c (did (in_registers f c))) w (Done 0) w'
+low_does : {f : Registers → Registers} {w w' : List ℕ} (p : Lanes) → is_high p ≡ false → Sets f w w' → Does (λ c. low_only p c (did (in_registers f c))) w (Ok 0) w'
 low_does {f} {w} {w'} p e a =
     let d = does_sets a in
     record { step = λ l s q mem. d.step l s q mem ∙ sym (low_only_lem p (view_of l w s q mem) (did (in_registers f (view_of l w s q mem))) ∙ ap (λ (b : Bool). cond b (refuse 3 (view_of l w s q mem)) (did (in_registers f (view_of l w s q mem)))) e); still = d.still; kept = d.kept }
@@ -121,7 +121,7 @@ unfolding write_register
 writes_bank p v e new w k right = low_does p e (store_bank (v % 8) new (omega arith) w k right)
 
 -- RCR, where bit 15 is not left set.
-pub writes_rcr : (p : Lanes) (v new : ℕ) → bit 15 new ≡ false → (w : List ℕ) → Kept w → new ≡ new_rcr p v (word w 2) → Does (write_register RCR p v) w (Done 0) (set w 2 new)
+pub writes_rcr : (p : Lanes) (v new : ℕ) → bit 15 new ≡ false → (w : List ℕ) → Kept w → new ≡ new_rcr p v (word w 2) → Does (write_register RCR p v) w (Ok 0) (set w 2 new)
 unfolding write_register write_rcr
 writes_rcr p v new stays w k right =
     let d = does_sets (store_rcr new w k) in
@@ -137,7 +137,7 @@ by_level x r = go (bit 0 x)
     go false = refl
 
 pub writes_tcr : (p : Lanes) (v new eph : ℕ) (w : List ℕ) → Kept w → Joined p v (word w 0) new → eph ≡ cond (bit 0 new) (forgotten (word w 1)) (word w 1)
-    → Does (write_register TCR p v) w (Done 0) (set (set w 0 new) 1 eph)
+    → Does (write_register TCR p v) w (Ok 0) (set (set w 0 new) 1 eph)
 unfolding write_register
 writes_tcr p v new eph w k joined level =
     let first = store_tcr new w k in
@@ -145,7 +145,7 @@ writes_tcr p v new eph w k joined level =
     (ap (λ (x : ℕ). set_ephsr x (set_tcr new (registers_in w))) level ∙ by_level new (registers_in w) ∙ ap (λ (x : ℕ). write_tcr x (registers_in w)) joined.word))
 
 -- Control, and the change of the link is forgotten.
-pub writes_control : (p : Lanes) (v new kept : ℕ) (w : List ℕ) → Kept w → Joined p v (word w 14) new → kept ≡ word w 15 % 2 → Does (write_register CONTROL p v) w (Done 0) (set (set w 14 new) 15 kept)
+pub writes_control : (p : Lanes) (v new kept : ℕ) (w : List ℕ) → Kept w → Joined p v (word w 14) new → kept ≡ word w 15 % 2 → Does (write_register CONTROL p v) w (Ok 0) (set (set w 14 new) 15 kept)
 unfolding write_register
 writes_control p v new kept w k joined right =
     let first = store_control new w k in
@@ -153,7 +153,7 @@ writes_control p v new kept w k joined right =
     (ap (λ (x : Link). set_link x (set_control new (registers_in w))) (forgets (word w 15) kept right) ∙ ap (λ (x : ℕ). set_control x (forget_change (registers_in w))) joined.word))
 
 -- A read of ECR clears it, and EPHSR bit 12.
-pub reads_ecr : (p : Lanes) (eph : ℕ) (w : List ℕ) → Kept w → eph ≡ clear_bit 12 (word w 1) → Does (read_register ECR p) w (Done (taken p (word w 3))) (set (set w 3 0) 1 eph)
+pub reads_ecr : (p : Lanes) (eph : ℕ) (w : List ℕ) → Kept w → eph ≡ clear_bit 12 (word w 1) → Does (read_register ECR p) w (Ok (taken p (word w 3))) (set (set w 3 0) 1 eph)
 unfolding read_register
 reads_ecr p eph w k right =
     let first = store_ecr 0 w k in

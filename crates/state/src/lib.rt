@@ -12,7 +12,7 @@ ghost use Rattle.state.specs.Meaning.{reply_of};
 
 pub use bytes::{is_high, merged, misplaced, taken};
 pub use link::shown_ephsr;
-pub use part::{Named, Part, is_part, packets_of, part_named, size_in};
+pub use part::{Part, is_part, packets_of, part_named, size_in};
 pub use places::{
     BANK, COMMAND, COMPLETION, COMPLETION_COUNT, CONTROL, ECR, EPHSR, HEADS, IN_RX, IN_RX_HIGH,
     IN_TX, IN_TX_HIGH, INTERRUPT, LATCHES, LINK, MIR, PACKET, POINTER, QUEUES_END, RCR, RESERVED,
@@ -29,16 +29,18 @@ pub const PLACES: u8 = 24;
 // What the allocation result and the heads of queues are where there is no packet: bit 7 (FAILED, EMPTY) alone.
 pub const NO_PACKET: u8 = 0x80;
 
-#[derive(Clone, Copy)]
+#[derive(Clone, Copy, PartialEq, Eq)]
 pub enum Width {
     Byte,
     Word,
 }
 
-// The answers; `reply_of` gives document 01's number and value of each.
-#[derive(Clone, Copy)]
-pub enum Answer {
-    Done(u16),
+// What a step answers: it is done, with a value, or it is refused. `reply_of` gives document 01's number and value of each.
+pub type Answer = Result<u16, Refusal>;
+
+// Document 01's refusals, in the order of their numbers but for the last two, which are 18 and 19.
+#[derive(Clone, Copy, PartialEq, Eq)]
+pub enum Refusal {
     Misplaced,
     NotModelled,
     ReadOnly,
@@ -67,30 +69,40 @@ pub enum Answer {
 #[derive(Clone, Copy)]
 pub struct Shown(pub u8, pub u16);
 
-pub fn printed(answer: Answer) -> Shown
-    ensures { (result.0 ≡ (reply_of answer).number) × (result.1 ≡ (reply_of answer).value) }
+impl From<Answer> for Shown {
+    ghost from_gives = { λ a s. (s.0 ≡ (reply_of a).number) × (s.1 ≡ (reply_of a).value) };
+
+    fn from(answer: Answer) -> Shown {
+        match answer {
+            Ok(value) => Shown(0, value),
+            Err(refusal) => shown_refusal(refusal),
+        }
+    }
+}
+
+fn shown_refusal(refusal: Refusal) -> Shown
+    ensures { (result.0 ≡ (reply_of (Err refusal)).number) × (result.1 ≡ (reply_of (Err refusal)).value) }
 {
-    match answer {
-        Answer::Done(value) => Shown(0, value),
-        Answer::Misplaced => Shown(1, 0),
-        Answer::NotModelled => Shown(2, 0),
-        Answer::ReadOnly => Shown(3, 0),
-        Answer::Reserved => Shown(4, 0),
-        Answer::NotAllocated => Shown(5, 0),
-        Answer::StillQueued => Shown(6, 0),
-        Answer::RxEmpty => Shown(7, 0),
-        Answer::AgainstRead => Shown(8, 0),
-        Answer::OddPointer => Shown(9, 0),
-        Answer::PastPages => Shown(10, 0),
-        Answer::OutsideLimits => Shown(11, 0),
-        Answer::NothingToSend => Shown(12, 0),
-        Answer::OddCount(count) => Shown(13, count),
-        Answer::CompletionFull => Shown(14, 0),
-        Answer::ShortOutput => Shown(15, 0),
-        Answer::Damaged => Shown(16, 0),
-        Answer::CutShort => Shown(17, 0),
-        Answer::ShortCount(count) => Shown(18, count),
-        Answer::LongCount(count) => Shown(19, count),
+    match refusal {
+        Refusal::Misplaced => Shown(1, 0),
+        Refusal::NotModelled => Shown(2, 0),
+        Refusal::ReadOnly => Shown(3, 0),
+        Refusal::Reserved => Shown(4, 0),
+        Refusal::NotAllocated => Shown(5, 0),
+        Refusal::StillQueued => Shown(6, 0),
+        Refusal::RxEmpty => Shown(7, 0),
+        Refusal::AgainstRead => Shown(8, 0),
+        Refusal::OddPointer => Shown(9, 0),
+        Refusal::PastPages => Shown(10, 0),
+        Refusal::OutsideLimits => Shown(11, 0),
+        Refusal::NothingToSend => Shown(12, 0),
+        Refusal::OddCount(count) => Shown(13, count),
+        Refusal::CompletionFull => Shown(14, 0),
+        Refusal::ShortOutput => Shown(15, 0),
+        Refusal::Damaged => Shown(16, 0),
+        Refusal::CutShort => Shown(17, 0),
+        Refusal::ShortCount(count) => Shown(18, count),
+        Refusal::LongCount(count) => Shown(19, count),
     }
 }
 

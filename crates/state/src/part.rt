@@ -7,7 +7,7 @@ ghost use Rattle.state.specs.Entry.{size_in};
 
 use crate::places::MIR;
 
-#[derive(Clone, Copy)]
+#[derive(Clone, Copy, PartialEq, Eq)]
 pub enum Part {
     Lan91c94,
     Lan91c96,
@@ -23,21 +23,14 @@ pub fn packets_of(part: Part) -> usize
     }
 }
 
-// What a byte names: a part, or none.
-#[derive(Drop)]
-pub enum Named {
-    Known(Part),
-    Unknown,
-}
-
 // The part that 94h or 96h names.
-pub fn part_named(byte: u8) -> Named
+pub fn part_named(byte: u8) -> Option<Part>
     ensures { packets_named result ≡ part_named byte }
 {
     match byte {
-        0x94 => Named::Known(Part::Lan91c94),
-        0x96 => Named::Known(Part::Lan91c96),
-        _ => Named::Unknown,
+        0x94 => Some(Part::Lan91c94),
+        0x96 => Some(Part::Lan91c96),
+        _ => None,
     }
 }
 
@@ -53,8 +46,5 @@ pub fn size_in(words: &[u16]) -> usize
 pub fn is_part(size: usize) -> bool
     ensures { Decides result (IsPart size) }
 {
-    match size {
-        18 | 24 => true,
-        _ => false,
-    }
+    matches!(size, 18 | 24)
 }

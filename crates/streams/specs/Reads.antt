@@ -1,8 +1,6 @@
 -- What a read promises of the buffer: where it gave bytes, how far they go.
-use Rattle.std.specs.Prelude.{◌≡◌, ℕ, ◌≤◌, ◌<◌}
-use Rattle.streams.specs.declared.input.Reading.{Reading}
-use Rattle.streams.specs.declared.input.Reading.TheVariants.{Filled}
+use Rattle.std.specs.Prelude.{ℕ, ◌≤◌, ◌<◌, Option, Result, IfSome, IfOk}
 
 -- bytes stand behind the first k, and within the n of the buffer
-abbrev pub Fills : ℕ → ℕ → Reading → Type 0
-Fills k n r = (m : ℕ) → r ≡ Filled m → (k < m) × (m ≤ n)
+abbrev pub Fills : {E : Type 0} → ℕ → ℕ → Result (Option ℕ) E → Type 0
+Fills k n r = IfOk r (λ filled. IfSome filled (λ m. (k < m) × (m ≤ n)))

@@ -11,6 +11,6 @@ mod record; // record.rt: a record of eight bytes, and all of the input
 
 pub use errors::{misused, unread, unwritten};
 pub use handle::StandardStreams;
-pub use input::{Reading, read_more};
-pub use output::{Written, write_out};
+pub use input::read_more;
+pub use output::{Unwritten, write_out};
 pub use record::{read_full, read_record};

@@ -1,68 +1,46 @@
 // Writing standard output.
-ghost use Rattle.std.specs.Prelude.{◌≡◌, ◌≤◌, ◌<◌, length, IsNone, IsSome};
+ghost use Rattle.std.specs.Prelude.{◌≤◌, ◌<◌, length, IfOk, IfErr};
 
 use crate::handle::StandardStreams;
 use crate::wait::{is_early, pause};
+use std::io;
 use std::io::{Error, ErrorKind};
 
-// How many bytes were taken, and where that is not all of them, why no more were.
+// Why not all of the bytes were taken, and how many were.
 #[derive(Drop)]
-pub struct Written {
+pub struct Unwritten {
     pub done: usize,
-    pub failure: Option<Error>,
+    pub reason: Error,
 }
 
-// Writes some of the bytes, and waits until one at least is taken. Returns how many were: 0 where they cannot be written.
-fn write_some(rt: &impl StandardStreams, bytes: &[u8]) -> Written
-    ensures { result.done ≤ length bytes.now }
+// Writes some of the bytes, and waits until one at least is taken. Returns how many were: 0 where none can be.
+fn write_some(rt: &impl StandardStreams, bytes: &[u8]) -> io::Result<usize>
+    ensures { IfOk result (λ n. n ≤ length bytes.now) }
 {
-    let mut turns = u64::MAX;
-    while turns > 0 {
+    for _ in 0..u64::MAX {
         match rt.write_some(bytes) {
-            Ok(done) => {
-                return Written {
-                    done,
-                    failure: None,
-                };
-            }
-            Err(reason) => {
-                if !is_early(reason) {
-                    return Written {
-                        done: 0,
-                        failure: Some(reason),
-                    };
-                }
-            }
+            Ok(n) => return Ok(n),
+            Err(reason) if is_early(reason) => pause(rt),
+            Err(reason) => return Err(reason),
         }
-        pause(rt);
-        turns -= 1;
     }
-    Written {
-        done: 0,
-        failure: None,
-    }
+    Ok(0)
 }
 
-// Writes the bytes, and returns how many were taken: all, unless the output cannot be written.
-pub fn write_out(rt: &impl StandardStreams, bytes: &[u8]) -> Written
-    ensures within { result.done ≤ length bytes.now }
-    ensures all { IsNone result.failure → result.done ≡ length bytes.now }
-    ensures part { IsSome result.failure → result.done < length bytes.now }
+// Writes the bytes, all of them, unless the output cannot be written.
+pub fn write_out(rt: &impl StandardStreams, bytes: &[u8]) -> Result<(), Unwritten>
+    ensures { IfErr result (λ e. e.done < length bytes.now) }
 {
     let mut done = 0;
     while done < bytes.len() {
-        let put = write_some(rt, &bytes[done..]);
-        if put.done == 0 {
-            let nothing = Error::from(ErrorKind::WriteZero);
-            return Written {
-                done,
-                failure: Some(put.failure.unwrap_or(nothing)),
-            };
+        match write_some(rt, &bytes[done..]) {
+            Ok(0) => {
+                let reason = Error::from(ErrorKind::WriteZero);
+                return Err(Unwritten { done, reason });
+            }
+            Ok(n) => done += n,
+            Err(reason) => return Err(Unwritten { done, reason }),
         }
-        done += put.done;
     }
-    Written {
-        done,
-        failure: None,
-    }
+    Ok(())
 }

@@ -3,7 +3,7 @@ ghost use Rattle.std.specs.Prelude.{◌≡◌, ◌≤◌, length};
 
 use crate::errors::unread;
 use crate::handle::StandardStreams;
-use crate::input::{Reading, read_more};
+use crate::input::read_more;
 
 // Reads a record: eight bytes, or those that are left where the input ends. That it cannot be read is said. Returns how many bytes there are.
 pub fn read_record(
@@ -18,11 +18,11 @@ pub fn read_record(
     let mut filled = 0;
     while filled < 8 {
         match read_more(rt, bytes, filled) {
-            Reading::Filled(n) => filled = n,
-            Reading::Ended => return filled,
-            Reading::Failed(reason) => {
+            Ok(Some(n)) => filled = n,
+            Ok(None) => break,
+            Err(reason) => {
                 unread(rt, program, number - 1, reason);
-                return filled;
+                break;
             }
         }
     }
@@ -35,8 +35,8 @@ pub fn read_full(rt: &impl StandardStreams, bytes: &mut [u8]) -> usize
 {
     let mut filled = 0;
     while filled < bytes.len() {
-        let Reading::Filled(n) = read_more(rt, bytes, filled) else {
-            return filled;
+        let Ok(Some(n)) = read_more(rt, bytes, filled) else {
+            break;
         };
         filled = n;
     }

@@ -10,9 +10,8 @@ pub fn pause(rt: &impl Clock) {
 
 // Did a call fail only because nothing is there yet, or because a signal came?
 pub fn is_early(reason: Error) -> bool {
-    let kind = reason.kind();
-    if kind == ErrorKind::WouldBlock {
-        return true;
-    }
-    kind == ErrorKind::Interrupted
+    matches!(
+        reason.kind(),
+        ErrorKind::WouldBlock | ErrorKind::Interrupted
+    )
 }

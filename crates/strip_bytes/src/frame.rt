@@ -25,11 +25,11 @@ fn write_trailer(memory: &mut [u8], packet: Packet, n: usize)
     ensures { memory.new ≡ put_bytes (trailer n) (n + 4) (strip_of packet.0) memory.old }
 {
     let at = Address((n + 4) as u16);
-    if n % 2 == 1 {
+    if bits::is_odd(n) {
         write_byte(memory, packet, at, 0x60);
-        return;
+    } else {
+        write_word(memory, packet, at, 0x4000);
     }
-    write_word(memory, packet, at, 0x4000);
 }
 
 // Status, byte count, n bytes of the frame, and what follows them, from address 0 on. All other bytes stay.

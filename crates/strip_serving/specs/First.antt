@@ -1,5 +1,6 @@
 -- Record 1 may ask for the part (document 02, W9). The chip powers up behind it, as the part that it asks for or as the LAN91C96; either way the record is answered on the bench that the rules start with.
-use Rattle.std.specs.Prelude.{◌≡◌, refl, Bool, true, false, cond, ◌⊎◌, List, ◌++◌, ℕ, ◌+◌, ◌*◌, ◌-◌, ◌≤◌, ◌<◌, ltb, length, take, replicate}
+use Rattle.std.specs.Prelude.{◌≡◌, refl, Bool, true, false, cond, ◌⊎◌, List, ◌++◌, ℕ, ◌+◌, ◌*◌, ◌-◌, ◌≤◌, ◌<◌, ltb, length, take, replicate, Ok, Option, None, Some, is_some}
+use Rattle.std.specs.Option.{unwrap_or}
 use Rattle.std.proofs.Common.{ap, sym, subst, ◌∙◌, true≢false, inl, inr, arith, lt-ltb, take_at}
 use Rattle.std.proofs.lemmas.List.{length-replicate, replicate-append-replicate}
 use Rattle.rules.specs.Parts.{lan91c96}
@@ -8,11 +9,8 @@ use Rattle.rules.specs.Answers.{done}
 use Rattle.rules.specs.Bench.{Event, Bench, Answered, answer, asks_for, answer_to, started_on, line}
 use Rattle.state.specs.declared.part.Part.{Part}
 use Rattle.state.specs.declared.part.Part.TheVariants as part
-use Rattle.state.specs.declared.part.Named.{Named}
-use Rattle.state.specs.declared.part.Named.TheVariants as named
 use Rattle.state.specs.Meaning.{reply_of, packets_of, packets_named}
-use Rattle.state.specs.declared.Answer.{Answer}
-use Rattle.state.specs.declared.Answer.TheVariants.{Done}
+use Rattle.state.specs.Meaning.{Answer}
 use Rattle.state.specs.View.{view_of}
 use Rattle.state.specs.Entry.{InOrderOf, size_in, zeros, StartedOf}
 use Rattle.state.specs.Places.{lent_in_order}
@@ -60,11 +58,20 @@ pub part_some : (p : Part) → 0 < packets_of p
 part_some part.Lan91c94 = omega arith
 part_some part.Lan91c96 = omega arith
 
-pub part_asked : {r : Named} {n : ℕ} (p : Part) → packets_named r ≡ n → r ≡ named.Known p → n ≡ packets_of p
+pub part_asked : {r : Option Part} {n : ℕ} (p : Part) → packets_named r ≡ n → r ≡ Some p → n ≡ packets_of p
 part_asked p e q = sym e ∙ ap packets_named q
 
-pub none_asked : {r : Named} {n : ℕ} → packets_named r ≡ n → r ≡ named.Unknown → n ≡ 0
+pub none_asked : {r : Option Part} {n : ℕ} → packets_named r ≡ n → r ≡ None → n ≡ 0
 none_asked e q = sym e ∙ ap packets_named q
+
+-- What powers up is the part that is named, else the LAN91C96; and that one is named, or none, says whether record 1 asked for it.
+pub starts_named : (r : Option Part) (e : Event) → packets_named r ≡ asks_for e → packets_of (unwrap_or r part.Lan91c96) ≡ starts_as e
+starts_named (Some p) e q = q ∙ sym (starts_part e (subst (λ (n : ℕ). 0 < n) q (part_some p)))
+starts_named None e q = sym (starts_none e (sym q))
+
+pub asked_named : (r : Option Part) (e : Event) → packets_named r ≡ asks_for e → AskedBy (is_some r) e
+asked_named (Some p) e q = (λ t. subst (λ (n : ℕ). 0 < n) q (part_some p), λ f. absurd (true≢false f))
+asked_named None e q = (λ t. absurd (true≢false (sym t)), λ f. sym q)
 
 -- So record 1 finds the part that it asked for, or asks for none,
 pub opens_first : {t : Bool} {bytes w s q mem wire : List ℕ} {have : ℕ} {out : List ℕ} → Starting bytes w s q mem wire have out → AskedBy t (asked bytes) → Opens t 1 bytes (holding (view_of strips w s q mem) (take have wire) out)
@@ -83,7 +90,7 @@ opens_later bytes b h = (λ e. absurd (true≢false (sym e)), λ e. inl h)
 
 -- A record that has started the part is done,
 pub turns_started : {t : Bool} {number : ℕ} (bytes : List ℕ) {w s q mem wire : List ℕ} {have : ℕ} {out : List ℕ} → HeldOf strips w s q mem wire have → t ≡ true → Opens t number bytes (holding (view_of strips w s q mem) (take have wire) out)
-    → TurnsOf strips (answer_to number (asked bytes) (answers_on t (holding (view_of strips w s q mem) (take have wire) out))) (Done 0) w s q mem wire have out
+    → TurnsOf strips (answer_to number (asked bytes) (answers_on t (holding (view_of strips w s q mem) (take have wire) out))) (Ok 0) w s q mem wire have out
 turns_started {t} {number} bytes {w} {s} {q} {mem} {wire} {have} {out} h e o =
     let f = o.0 e in
     let x : answer_to number (asked bytes) (answers_on t (holding (view_of strips w s q mem) (take have wire) out)) ≡ record { reply = done; after = started_on (powered strips (asks_for (asked bytes))) } =

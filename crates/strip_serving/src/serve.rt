@@ -4,16 +4,17 @@ ghost use Rattle.rules.specs.Chip.{strips};
 ghost use Rattle.rules.specs.Bench.{asks_for, answer_to};
 ghost use Rattle.lines.specs.Counting.{Counts};
 ghost use Rattle.records.specs.Gathers.{holding};
-ghost use Rattle.state.specs.Meaning.{packets_of, packets_named};
+ghost use Rattle.state.specs.Meaning.{packets_named};
 ghost use Rattle.state.specs.View.{view_of};
 ghost use Rattle.turns.specs.Turns.{HeldOf, TurnsOf};
 ghost use Rattle.turns.specs.Served.{asked, ServedOf};
-ghost use Rattle.strip_serving.specs.First.{answers_on, starts_as, AskedBy, Opens};
+ghost use Rattle.strip_serving.specs.First.{answers_on, Opens};
 
 use lines::Counter;
-use state::{Answer, Named, Part};
+use state::{Answer, Part, Shown};
+use std::io::Error;
 use streams::StandardStreams;
-use strip_turns::answer;
+use strips::Strips;
 
 // The answer to a record. One that asked for the part, as record 1, is done: `started` tells that its part has powered up.
 fn turn(
@@ -31,9 +32,9 @@ fn turn(
     ensures { (number : ℕ) → Opens started number bytes.now (holding (view_of strips words.old counts.old queues.old memory.old) (take have.old wire.old) out.old) → TurnsOf strips (answer_to number (asked bytes.now) (answers_on started (holding (view_of strips words.old counts.old queues.old memory.old) (take have.old wire.old) out.old))) result words.new counts.new queues.new memory.new wire.new have.new out.new }
 {
     if started {
-        return Answer::Done(0);
+        return Ok(0);
     }
-    answer(words, counts, queues, memory, wire, have, out, bytes)
+    turns::answer_cut::<Strips>(words, counts, queues, memory, wire, have, out, bytes)
 }
 
 // Answers a record, and writes its line to the front of the buffer; returns the place behind it.
@@ -57,59 +58,43 @@ fn serve_record(
     let given = turn(
         words, counts, queues, memory, wire, have, out, bytes, started,
     );
-    lines::line_at(line, 0, counter, state::printed(given))
+    lines::line_at(line, 0, counter, Shown::from(given))
 }
 
 // The part that record 1 asks for, if it has eight bytes and asks for one.
-fn part_in(bytes: &[u8]) -> Named
+fn part_in(bytes: &[u8]) -> Option<Part>
     requires { length bytes.now ≤ 8 }
     ensures { packets_named result ≡ asks_for (asked bytes.now) }
 {
     if bytes.len() < 8 {
-        return Named::Unknown;
+        return None;
     }
     records::part_asked(bytes)
 }
 
-// The part that powers up, and whether record 1 asked for it.
+// The output cannot be written behind the line of this record, for this reason.
 #[derive(Drop)]
-struct Opening {
-    part: Part,
-    asked: bool,
+struct Unwritten {
+    record: u64,
+    reason: Error,
 }
 
-// Without that it is the LAN91C96.
-fn opens_with(bytes: &[u8]) -> Opening
-    requires { length bytes.now ≤ 8 }
-    ensures part { packets_of result.part ≡ starts_as (asked bytes.now) }
-    ensures asked { AskedBy result.asked (asked bytes.now) }
-{
-    let named = part_in(bytes);
-    match named {
-        Named::Known(part) => Opening { part, asked: true },
-        Named::Unknown => Opening {
-            part: Part::Lan91c96,
-            asked: false,
-        },
-    }
-}
-
-// Writes the line of a record, which stands before `end`. Where that fails it says so, and behind which record; returns whether it went well.
+// Writes the line of a record, which stands before `end`.
 fn write_line(
     rt: &impl StandardStreams,
-    program: &[u8],
     line: &[u8],
     end: usize,
     number: u64,
-) -> bool
+) -> Result<(), Unwritten>
     requires { (end ≤ length line.now) × (1 ≤ number) }
 {
-    let written = streams::write_out(rt, &line[..end]);
-    let Some(reason) = written.failure else {
-        return true;
-    };
-    streams::unwritten(rt, program, number - 1, reason);
-    false
+    match streams::write_out(rt, &line[..end]) {
+        Ok(()) => Ok(()),
+        Err(failed) => Err(Unwritten {
+            record: number - 1,
+            reason: failed.reason,
+        }),
+    }
 }
 
 // Each record is served before the next is waited for, until the input ends; record 1, of `first` bytes, has been read, and `asked` tells whether it asked for the part. The loop ends at record 2^63, which no run comes to.
@@ -125,7 +110,7 @@ fn serve_from(
     bytes: &mut [u8],
     first: usize,
     asked: bool,
-)
+) -> Result<(), Unwritten>
     requires held_of { HeldOf strips words.old counts.old queues.old memory.old wire.old 0 × (length bytes.old ≡ 8) × (first ≤ 8) }
     requires opens { Opens asked 1 (take first bytes.old) (holding (view_of strips words.old counts.old queues.old memory.old) (take 0 wire.old) out.old) }
 {
@@ -136,7 +121,7 @@ fn serve_from(
     let mut counter = lines::counter_of(1);
     while counter.number < 0x8000000000000000 {
         if filled == 0 {
-            return;
+            break;
         }
         let end = serve_record(
             words,
@@ -151,37 +136,32 @@ fn serve_from(
             counter,
             &mut line,
         );
-        if !write_line(rt, program, &line, end, counter.number) {
-            return;
-        }
+        write_line(rt, &line, end, counter.number)?;
         if filled < 8 {
-            return;
+            break;
         }
         started = false;
         counter = lines::next(counter);
         filled = streams::read_record(rt, program, bytes, counter.number);
     }
+    Ok(())
 }
 
 // The bench of strips to the end of the input; `program` is the name that it has on standard error. Record 1 is read before the chip powers up, for it may ask for the part.
 pub fn run(rt: &impl StandardStreams, program: &[u8]) {
     let mut bytes = [0; 8];
     let filled = streams::read_record(rt, program, &mut bytes, 1);
-    let opening = opens_with(&bytes[..filled]);
-    let part = opening.part;
-    let asked = opening.asked;
+    let asked = part_in(&bytes[..filled]);
+    let part = asked.unwrap_or(Part::Lan91c96);
     let n = state::packets_of(part);
-    let start = strip_chip::power_up(part);
-    let registers = start.registers;
-    let strips = start.strips;
-    let fifos = start.queues;
-    let mut words = registers.words;
-    let mut counts = strips.counts;
-    let mut queues = fifos.slots;
+    let start = chip::power_up(part);
+    let mut words = start.registers.words;
+    let mut counts = start.pages.sets;
+    let mut queues = start.queues.slots;
     let mut memory = [0; 49152];
     let mut wire = [0; 2048];
     let mut out = [0; 2052];
-    serve_from(
+    let served = serve_from(
         rt,
         program,
         &mut words,
@@ -192,6 +172,9 @@ pub fn run(rt: &impl StandardStreams, program: &[u8]) {
         &mut out,
         &mut bytes,
         filled,
-        asked,
+        asked.is_some(),
     );
+    if let Err(failed) = served {
+        streams::unwritten(rt, program, failed.record, failed.reason);
+    }
 }

@@ -1,11 +1,12 @@
 -- Refusal 16 by its tests: what a record with 24 counts is asked on the part with n packets. A record that names n is asked all of it exactly where it holds (`asked_holds`, `holds_asked`).
-use Rattle.std.specs.Prelude.{◌≡◌, refl, List, [], ◌∷◌, ◌++◌, map, ℕ, zero, suc, ◌+◌, ◌-◌, ◌*◌, ◌/◌, length, take, drop, get_or, replicate}
+use Rattle.std.specs.Prelude.{◌≡◌, refl, Bool, List, [], ◌∷◌, ◌++◌, map, ℕ, zero, suc, ◌+◌, ◌-◌, ◌*◌, ◌/◌, length, take, drop, get_or, replicate}
 use Rattle.std.proofs.Common.{ap, sym, subst, ◌∙◌, arith, take-append-drop, length-take-le}
 use Rattle.rules.specs.Bits.{word_of}
 use Rattle.rules.specs.Lists.{some?, up_from}
 use Rattle.rules.specs.Parts.{IsPart}
 use Rattle.rules.specs.Chip.{strips, free_for}
 use Rattle.rules.specs.WellFormed.{GoodQueues, GoodNumbers}
+use Rattle.lists.specs.Facts.{Decides, agrees}
 use Rattle.wellformed.specs.Parts.{part_few}
 use Rattle.wellformed.specs.Layouts.{GoodLists}
 use Rattle.sets.specs.Views.{pages_of}
@@ -104,3 +105,11 @@ module _ (w s q : List ℕ) (small : Small s) where
         };
         rest = a.rest;
       }
+
+-- So what decides all that is asked on the part that a record names decides whether it holds.
+module _ {b : Bool} {n : ℕ} {w s q : List ℕ} (named : n ≡ size_in w) (long : length s ≡ 24) (small : Small s) where
+  pub asked_decides : Decides b (Asked n w s q) → Decides b (HoldsOf strips w s q)
+  asked_decides d =
+      agrees d
+      (λ a. asked_holds w s q small long (subst (λ (m : ℕ). Asked m w s q) named a))
+      (λ h. subst (λ (m : ℕ). Asked m w s q) (sym named) (holds_asked w s q small h))

@@ -1,14 +1,15 @@
 -- What refusal 16 asks of the counts, in numbers; and that it is what the rules ask of the page lists which the counts say.
-use Rattle.std.specs.Prelude.{◌≡◌, true, ◌↔◌, List, [], ◌∷◌, ℕ, zero, suc, ◌+◌, ◌*◌, ◌≤◌, ◌<◌, length, get_or}
-use Rattle.std.proofs.Common.{ap, sym, ◌∙◌, arith}
+use Rattle.std.specs.Prelude.{◌≡◌, refl, true, ◌↔◌, List, [], ◌∷◌, map, ℕ, zero, suc, ◌+◌, ◌*◌, ◌≤◌, ◌<◌, length, get_or}
+use Rattle.std.proofs.Common.{ap, sym, true≢false, ◌∙◌, arith}
 use Rattle.std.proofs.Math.Decide.{dec_le}
 use Rattle.std.proofs.Math.ListN.{get_or-eq_default}
-use Rattle.rules.specs.Lists.{member, up_from}
+use Rattle.rules.specs.Lists.{member, some?, up_from, first_empty}
 use Rattle.rules.specs.Chip.{strips, free_for}
 use Rattle.lists.specs.UpFrom.{member_up, ascending_up}
 use Rattle.wellformed.specs.Layouts.{GoodLists, free_total}
+use Rattle.sets.specs.Views.{pages_of}
 use Rattle.state.specs.View.{strips_from}
-use Rattle.state.specs.Pages.{sum, strips_length, strip_at, strip_count, strips_total}
+use Rattle.state.specs.Pages.{says_none, sum, strips_length, strip_at, strip_count, strips_total}
 use Rattle.state.specs.Promise.{Small}
 
 -- "how many are free and how many each packet has, 24 in sum", of the other part n: so many are free, and the packets have the counts s, each at most its own eight
@@ -75,3 +76,27 @@ module _ (s : List ℕ) where
 -- Counts whose page lists are good are small.
 pub counts_small : (s : List ℕ) {n : ℕ} {ls : List (List ℕ)} → strips_from 0 s ≡ ls → GoodLists strips n ls → Small s
 counts_small s e good i = let few : length (get_or (strips_from 0 s) i []) ≤ 8 = rw e (good.pages.at_most i) in omega (arith, few, strip_count s i)
+
+-- Where the same lists have entries, the same is the first that has none.
+first_same : (ls ms : List (List ℕ)) → ((k : ℕ) → some? (get_or ls k []) ≡ some? (get_or ms k [])) → first_empty ls ≡ first_empty ms
+unfolding first_empty some?
+first_same [] [] h = refl
+first_same [] ([] ∷ ms) h = refl
+first_same [] ((y ∷ ys) ∷ ms) h = absurd (true≢false (sym (h 0)))
+first_same ([] ∷ ls) [] h = refl
+first_same ((x ∷ xs) ∷ ls) [] h = absurd (true≢false (h 0))
+first_same ([] ∷ ls) ([] ∷ ms) h = refl
+first_same ([] ∷ ls) ((y ∷ ys) ∷ ms) h = absurd (true≢false (sym (h 0)))
+first_same ((x ∷ xs) ∷ ls) ([] ∷ ms) h = absurd (true≢false (h 0))
+first_same ((x ∷ xs) ∷ ls) ((y ∷ ys) ∷ ms) h = ap suc (first_same ls ms (λ k. h (suc k)))
+
+-- So counts taken for page sets have the lowest unallocated packet that they have as counts.
+pub lowest_counted : (s : List ℕ) → Small s → first_empty (map pages_of s) ≡ first_empty (strips_from 0 s)
+lowest_counted s small = first_same (map pages_of s) (strips_from 0 s) (says_none s small)
+
+-- It is a packet's, or as many as there are packets.
+pub lowest_few : (ls : List (List ℕ)) → first_empty ls ≤ length ls
+unfolding first_empty
+lowest_few [] = omega arith
+lowest_few ([] ∷ ls) = omega arith
+lowest_few ((x ∷ xs) ∷ ls) = omega (arith, lowest_few ls)

@@ -1,3 +1,4 @@
 -- What the functions of this crate test.
 pub mod Counts
 pub mod Asked
+pub mod Data

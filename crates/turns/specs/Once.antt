@@ -3,7 +3,7 @@ use Rattle.std.specs.Prelude.{◌≡◌, List, [], ℕ, ◌≤◌, length, take}
 use Rattle.std.proofs.Common.{ap, sym, ◌∙◌, arith, length-take-le}
 use Rattle.rules.specs.Chip.{Layout, paged, powered}
 use Rattle.rules.specs.Bench as rules
-use Rattle.state.specs.declared.Answer.{Answer}
+use Rattle.state.specs.Meaning.{Answer}
 use Rattle.state.specs.View.{view_of}
 use Rattle.state.specs.Only.{one_answer}
 use Rattle.state.proofs.Only.{one_state}

@@ -1,5 +1,5 @@
 -- From what the steps of a chip promise to one step of the bench.
-use Rattle.std.specs.Prelude.{◌≡◌, Bool, List, [], ℕ, ◌≤◌, take, drop}
+use Rattle.std.specs.Prelude.{◌≡◌, Bool, List, [], ℕ, ◌≤◌, take, drop, Err}
 use Rattle.std.proofs.Math.Path.{refl}
 use Rattle.std.proofs.Common.{ap, sym, subst, ◌∙◌, arith}
 use Rattle.rules.specs.Chip.{Layout}
@@ -9,8 +9,8 @@ use Rattle.rules.specs.Send.{Send}
 use Rattle.rules.specs.Step.{driver, frame, sent, link, step}
 use Rattle.rules.specs.Bench as rules
 use Rattle.judging.specs.Frames.{frame_of}
-use Rattle.state.specs.declared.Answer.{Answer}
-use Rattle.state.specs.declared.Answer.TheVariants.{OutsideLimits, CutShort}
+use Rattle.state.specs.Meaning.{Answer}
+use Rattle.state.specs.declared.Refusal.TheVariants.{OutsideLimits, CutShort}
 use Rattle.state.specs.View.{view_of}
 use Rattle.state.specs.Entry.{RightOf}
 use Rattle.records.specs.declared.event.Event.{Event}
@@ -52,11 +52,11 @@ module _ {l : Layout} {w s q mem wire : List ℕ} {have : ℕ} (out : List ℕ) 
   send_turns x p = turning _ have h.few p p.output
 
   -- a part is asked for too late, or not at all
-  pub part_turns : (x : ℕ) → TurnsOf l (rules.answer (rules.part x) (holding (view_of l w s q mem) (take have wire) out)) OutsideLimits w s q mem wire have out
+  pub part_turns : (x : ℕ) → TurnsOf l (rules.answer (rules.part x) (holding (view_of l w s q mem) (take have wire) out)) (Err OutsideLimits) w s q mem wire have out
   unfolding rules.answer
   part_turns x = record { reply = refl; bench = refl; held = h }
 
-  pub unknown_turns : TurnsOf l (rules.answer rules.unknown (holding (view_of l w s q mem) (take have wire) out)) CutShort w s q mem wire have out
+  pub unknown_turns : TurnsOf l (rules.answer rules.unknown (holding (view_of l w s q mem) (take have wire) out)) (Err CutShort) w s q mem wire have out
   unfolding rules.answer
   unknown_turns = record { reply = refl; bench = refl; held = h }
 

@@ -3,7 +3,7 @@ use Rattle.std.specs.Prelude.{◌≡◌, List, ℕ, ◌≤◌, length, take, dro
 use Rattle.rules.specs.Chip.{Layout, paged, Chip}
 use Rattle.rules.specs.Bench as rules
 use Rattle.rules.specs.Bench.{gather}
-use Rattle.state.specs.declared.Answer.{Answer}
+use Rattle.state.specs.Meaning.{Answer}
 use Rattle.state.specs.Meaning.{reply_of}
 use Rattle.state.specs.View.{view_of}
 use Rattle.state.specs.Entry.{InOrderOf}

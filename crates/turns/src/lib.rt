@@ -1,6 +1,6 @@
-// One step of the bench: a record, and what becomes of it.
+// One step of the bench, on a chip of either layout: a record, and what becomes of it.
 #![tactic(auto)]
 
 mod turn; // turn.rt: its arms, by what the record asks for
 
-pub use turn::{answer, gather_more};
+pub use turn::{answer, answer_cut};

@@ -14,7 +14,7 @@ returns : tie.Need-returns
 unfolding perform
 returns c = λ l s pages mem.
     let a = c.args in
-    let both = rejoins_both c.empty_tx.ensures c.empty_completion.ensures in
+    let both = rejoins_both c.empty.ensures c.empty-2.ensures in
     performs rules.reset_tx a.words.now s a.queues.now mem (in_pool (λ p. set_completion [] (set_tx [] p))) refl (rejoins_chip both l s mem) (rejoins_sound both pages)
 
 pub do_reset_tx_spec : {M : Type 1} → statement M

@@ -6,7 +6,7 @@ use Prim.Native.Nat.{ℕ}
 use Rattle.rules.specs.Chip.{Layout}
 use Rattle.rules.specs.Registers as rules
 use Rattle.rules.specs.Registers.{lanes_at, register_at, read_register, access}
-use Rattle.state.specs.declared.Answer.{Answer}
+use Rattle.state.specs.Meaning.{Answer}
 use Rattle.state.specs.Meaning.{width_of}
 use Rattle.state.specs.View.{view_of}
 use Rattle.state.specs.Promise.{MakesOf, does_makes}

@@ -1,4 +1,5 @@
 -- By the place: the law of the register that stands there; an arm with many keys gives the law for each of them.
+use Rattle.std.specs.Prelude.{Err}
 use borrow.Author.Rules.{rules}
 use mathlib.Core.Path.{◌≡◌, refl, sym, subst, ◌∙◌}
 use mathlib.Core.List.{List, [], ◌∷◌}
@@ -9,8 +10,8 @@ use Rattle.rules.specs.Tests.{all_below}
 use Rattle.rules.specs.Chip.{Layout}
 use Rattle.rules.specs.Registers.{Lanes, lanes_at, register_at, read_register, access}
 use Rattle.rules.specs.Registers as rules
-use Rattle.state.specs.declared.Answer.{Answer}
-use Rattle.state.specs.declared.Answer.TheVariants.{NotModelled}
+use Rattle.state.specs.Meaning.{Answer}
+use Rattle.state.specs.declared.Refusal.TheVariants.{NotModelled}
 use Rattle.state.specs.Meaning.{width_of}
 use Rattle.state.specs.View.{word, figures, view_of}
 use Rattle.state.specs.Keys.{by_key, key_below, passed, in_some}
@@ -87,14 +88,14 @@ unfolding register_in register_at
 returns c =
     let s = c.before.before.before in
     let none = reads_absent (lanes s) (words s) s.requires.0 in
-    plain s _ refl (by_key (λ (k : ℕ). Does (read_register (register_in k) (lanes s)) (words s) NotModelled (words s)) (6 ∷ 8 ∷ 13 ∷ 28 ∷ 30 ∷ 32 ∷ 34 ∷ 36 ∷ 38 ∷ []) _ c.in-6.is none none none none none none none none none)
+    plain s _ refl (by_key (λ (k : ℕ). Does (read_register (register_in k) (lanes s)) (words s) (Err NotModelled) (words s)) (6 ∷ 8 ∷ 13 ∷ 28 ∷ 30 ∷ 32 ∷ 34 ∷ 36 ∷ 38 ∷ []) _ c.in-6.is none none none none none none none none none)
 
 returns-2 : tie.Need-returns-in-9
 unfolding register_in register_at
 returns-2 c =
     let s = c.before.before.before in
     let none = reads_absent (lanes s) (words s) s.requires.0 in
-    plain s _ refl (by_key (λ (k : ℕ). Does (read_register (register_in k) (lanes s)) (words s) NotModelled (words s)) (9 ∷ 29 ∷ 33 ∷ 35 ∷ 37 ∷ []) _ c.in-9.is none none none none none)
+    plain s _ refl (by_key (λ (k : ℕ). Does (read_register (register_in k) (lanes s)) (words s) (Err NotModelled) (words s)) (9 ∷ 29 ∷ 33 ∷ 35 ∷ 37 ∷ []) _ c.in-9.is none none none none none)
 
 -- MIR, and what is found for each read
 returns-3 : tie.Need-returns-in-4

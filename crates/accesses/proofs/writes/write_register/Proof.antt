@@ -1,4 +1,5 @@
 -- By the place: the law of the register that stands there; an arm with many keys gives the law for each of them.
+use Rattle.std.specs.Prelude.{Ok, Err}
 use borrow.Author.Rules.{rules}
 use mathlib.Core.Path.{◌≡◌, refl, sym, subst, ◌∙◌}
 use mathlib.Core.List.{List, [], ◌∷◌}
@@ -10,8 +11,8 @@ use Rattle.rules.specs.Lists.{member}
 use Rattle.rules.specs.Tests.{all_below}
 use Rattle.rules.specs.Registers as rules
 use Rattle.rules.specs.Registers.{Lanes, lanes_at, register_at, write_register, access}
-use Rattle.state.specs.declared.Answer.{Answer}
-use Rattle.state.specs.declared.Answer.TheVariants.{Done, NotModelled, ReadOnly}
+use Rattle.state.specs.Meaning.{Answer}
+use Rattle.state.specs.declared.Refusal.TheVariants.{NotModelled, ReadOnly}
 use Rattle.state.specs.Meaning.{width_of}
 use Rattle.state.specs.View.{figures, view_of}
 use Rattle.state.specs.Keys.{by_key, key_below, passed, in_some}
@@ -155,14 +156,14 @@ returns-7 c =
     let v = s.args.value in
     let w = words s in
     let k = s.requires.0 in
-    (plain s _ refl (by_key (λ (j : ℕ). Does (write_register (register_in j) p v) w ReadOnly w) (1 ∷ 3 ∷ 18 ∷ []) _ c.in-1.is (writes_ephsr p v w k) (writes_ecr p v w k) (writes_heads p v w k)), (k.whole, s.requires.1.long))
+    (plain s _ refl (by_key (λ (j : ℕ). Does (write_register (register_in j) p v) w (Err ReadOnly) w) (1 ∷ 3 ∷ 18 ∷ []) _ c.in-1.is (writes_ephsr p v w k) (writes_ecr p v w k) (writes_heads p v w k)), (k.whole, s.requires.1.long))
 
 returns-8 : tie.Need-returns-in-4
 unfolding register_in register_at
 returns-8 c =
     let s = c.before.before.before in
     let w = words s in
-    (plain s _ refl (by_key (λ (j : ℕ). Does (write_register (register_in j) (lanes s) s.args.value) w ReadOnly w) (4 ∷ []) _ c.in-4.is (writes_mir (lanes s) s.args.value w s.requires.0)), (s.requires.0.whole, s.requires.1.long))
+    (plain s _ refl (by_key (λ (j : ℕ). Does (write_register (register_in j) (lanes s) s.args.value) w (Err ReadOnly) w) (4 ∷ []) _ c.in-4.is (writes_mir (lanes s) s.args.value w s.requires.0)), (s.requires.0.whole, s.requires.1.long))
 
 returns-9 : tie.Need-returns-in-6
 unfolding register_in register_at
@@ -170,7 +171,7 @@ returns-9 c =
     let s = c.before.before.before in
     let w = words s in
     let u = writes_absent (lanes s) s.args.value w s.requires.0 in
-    (plain s _ refl (by_key (λ (j : ℕ). Does (write_register (register_in j) (lanes s) s.args.value) w NotModelled w) (6 ∷ 8 ∷ 13 ∷ 28 ∷ 30 ∷ 32 ∷ 34 ∷ 36 ∷ 38 ∷ []) _ c.in-6.is u u u u u u u u u), (s.requires.0.whole, s.requires.1.long))
+    (plain s _ refl (by_key (λ (j : ℕ). Does (write_register (register_in j) (lanes s) s.args.value) w (Err NotModelled) w) (6 ∷ 8 ∷ 13 ∷ 28 ∷ 30 ∷ 32 ∷ 34 ∷ 36 ∷ 38 ∷ []) _ c.in-6.is u u u u u u u u u), (s.requires.0.whole, s.requires.1.long))
 
 returns-10 : tie.Need-returns-in-9
 unfolding register_in register_at
@@ -178,7 +179,7 @@ returns-10 c =
     let s = c.before.before.before in
     let w = words s in
     let u = writes_absent (lanes s) s.args.value w s.requires.0 in
-    (plain s _ refl (by_key (λ (j : ℕ). Does (write_register (register_in j) (lanes s) s.args.value) w NotModelled w) (9 ∷ 29 ∷ 33 ∷ 35 ∷ 37 ∷ []) _ c.in-9.is u u u u u), (s.requires.0.whole, s.requires.1.long))
+    (plain s _ refl (by_key (λ (j : ℕ). Does (write_register (register_in j) (lanes s) s.args.value) w (Err NotModelled) w) (9 ∷ 29 ∷ 33 ∷ 35 ∷ 37 ∷ []) _ c.in-9.is u u u u u), (s.requires.0.whole, s.requires.1.long))
 
 -- the words
 returns-11 : tie.Need-returns-in-10
@@ -204,7 +205,7 @@ returns-13 c =
     let s = c.before.before.before in
     let below = place_below _ _ (words s) s.requires.0 s.requires.2 in
     let unused = unused_left ((2 ∷ []) ∷ (16 ∷ []) ∷ arms) refl s.args.at (omega (arith, s.requires.3, below)) s.requires.4 ((c.in_default.in_default-own.rest, s.requires.6), s.requires.5) in
-    (plain s _ refl (subst (λ (x : rules.Register). Does (write_register x (lanes s) s.args.value) (words s) (Done 0) (words s)) (sym unused) (writes_unused (lanes s) s.args.value (words s) s.requires.0)), (s.requires.0.whole, s.requires.1.long))
+    (plain s _ refl (subst (λ (x : rules.Register). Does (write_register x (lanes s) s.args.value) (words s) (Ok 0) (words s)) (sym unused) (writes_unused (lanes s) s.args.value (words s) s.requires.0)), (s.requires.0.whole, s.requires.1.long))
 
 pub write_register_spec : {M : Type 1} → statement M
 write_register_spec =

@@ -40,7 +40,7 @@ returns-3 c =
     let e = c in
     let s = c in
     let h = s.requires.1 in
-    c.rx_head.ensures ∙ head_told 0 _ s.args.queues.now h.rx (omega (arith, c.if-words-eq0.false))
+    c.head.ensures ∙ head_told 0 _ s.args.queues.now h.rx (omega (arith, c.if-words-eq0.false))
     ∙ ap head_or24 (sym (head_and_rest (queue_in 0 (word s.args.words.now 6) s.args.queues.now) 0 (omega (arith, h.rx.many, c.if-words-eq0.false))))
     ∙ sym (set _ _ _ (sym e.is_set.ensures ∙ e.if-not-is_set.false))
 

@@ -6,7 +6,7 @@ use Rattle.registers.proofs.reads.heads.Statement.{statement}
 use Rattle.registers.proofs.reads.heads.Tie as tie
 
 returns : tie.Need-returns
-returns c = c.word.ensures ∙ ap₂ word_of c.completion_shown.ensures c.rx_shown.ensures
+returns c = c.word.ensures ∙ ap₂ word_of c.head_shown.ensures c.head_shown-2.ensures
 
 pub heads_spec : {M : Type 1} → statement M
 heads_spec = tie.close (tie.spec (λ c κs. search rules) (λ c κs. search rules) (λ c κs. search rules) returns)

@@ -22,7 +22,7 @@ returns c = let e = c in
     let text = e.line_at.ensures.0 in
     record {
       turns = a.turn-given.ensures;
-      text = taken (omega arith) text ∙ ap (λ (k : ℕ). line k (record { number = p.printed.result.0; value = p.printed.result.1 })) (counter_number n.counter_of-counter.ensures) ∙ ap (line s.args.number) ((λ i. record { number = p.printed.ensures.0 i; value = p.printed.ensures.1 i }) ∙ a.turn-given.ensures.reply);
+      text = taken (omega arith) text ∙ ap (λ (k : ℕ). line k (record { number = p.from.result.0; value = p.from.result.1 })) (counter_number n.counter_of-counter.ensures) ∙ ap (line s.args.number) ((λ i. record { number = p.from.ensures.0 i; value = p.from.ensures.1 i }) ∙ a.turn-given.ensures.reply);
       fits = omega (arith, e.line_at.ensures.1, c.line-1.given, s.requires.1);
       behind = rest_stays text;
     }

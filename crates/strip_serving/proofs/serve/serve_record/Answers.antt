@@ -8,7 +8,7 @@ use Rattle.strip_serving.proofs.serve.serve_record.Goals as goal
 pub returns : goal.returns
 returns c =
     let n = c.args.counter.number in
-    let p = c.printed.ensures in
+    let p = c.from.ensures in
     let e = c.line_at.ensures in
     let r = c.requires.bytes_len_bound in
     served_as

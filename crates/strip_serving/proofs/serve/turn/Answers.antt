@@ -6,4 +6,4 @@ pub returns-then-started : goal.returns-then-started
 returns-then-started c number o = turns_started c.args.bytes.now c.requires.0 c.if-started.true o
 
 pub returns : goal.returns
-returns c number o = turns_plain c.args.bytes.now c.answer.ensures c.if-started.false o
+returns c number o = turns_plain c.args.bytes.now c.answer_cut.ensures c.if-started.false o

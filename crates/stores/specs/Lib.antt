@@ -1,0 +1,2 @@
+-- What a packet's home asks of memory.
+pub mod Rooms

@@ -1,2 +1,0 @@
--- What the public entries of the chip of strips promise.
-pub mod Entry

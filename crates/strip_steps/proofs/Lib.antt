@@ -1,2 +1,0 @@
--- What the proofs of an arrival share.
-pub mod Storing

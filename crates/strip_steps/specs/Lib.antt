@@ -1,3 +1,0 @@
--- What the steps of the chip of strips rest on.
-pub mod Data
-pub mod Sends

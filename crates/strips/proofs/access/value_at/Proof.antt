@@ -1,0 +1,14 @@
+-- By the width.
+use borrow.Author.Rules.{rules}
+use Rattle.strips.proofs.access.value_at.Statement.{statement}
+use Rattle.strips.proofs.access.value_at.Tie as tie
+
+pub value_at_spec : {M : Type 1} → statement M
+value_at_spec =
+    tie.close
+    (tie.spec
+    (λ c κs. rw c.if-wide.true at c.requires)
+    (λ c. rw c.if-wide.true c.read_word.ensures)
+    (λ c κs. rw c.if-wide.false at c.requires)
+    (λ c. search rules)
+    (λ c. rw c.if-wide.false c.read_byte.ensures))
