@@ -53,7 +53,7 @@ impl<R: StandardStreams, const RECORDS: usize, const LINES: usize> Program<'_, R
         requires { (end ≤ LINES) × (1 ≤ first) × (first < NEVER) }
     {
         match streams::write_out(self.rt, &self.lines[..end]) {
-            Ok(()) => Ok(()),
+            Ok(_) => Ok(()),
             Err(failed) => Err(Unwritten {
                 record: first - 1 + line_count(&self.lines[..failed.done]),
                 reason: failed.reason,

@@ -1,5 +1,5 @@
 // Writing standard output.
-ghost use Rattle.std.specs.Prelude.{◌≤◌, ◌<◌, length, IfOk, IfErr};
+ghost use Rattle.std.specs.Prelude.{◌≡◌, ◌≤◌, ◌<◌, length, IfOk, IfErr};
 
 use crate::handle::StandardStreams;
 use crate::wait::{is_early, pause};
@@ -27,9 +27,10 @@ fn write_some(rt: &impl StandardStreams, bytes: &[u8]) -> io::Result<usize>
     Ok(0)
 }
 
-// Writes the bytes, all of them, unless the output cannot be written.
-pub fn write_out(rt: &impl StandardStreams, bytes: &[u8]) -> Result<(), Unwritten>
-    ensures { IfErr result (λ e. e.done < length bytes.now) }
+// Writes the bytes, and returns how many were taken: all, unless the output cannot be written.
+pub fn write_out(rt: &impl StandardStreams, bytes: &[u8]) -> Result<usize, Unwritten>
+    ensures all { IfOk result (λ n. n ≡ length bytes.now) }
+    ensures part { IfErr result (λ e. e.done < length bytes.now) }
 {
     let mut done = 0;
     while done < bytes.len() {
@@ -42,5 +43,5 @@ pub fn write_out(rt: &impl StandardStreams, bytes: &[u8]) -> Result<(), Unwritte
             Err(reason) => return Err(Unwritten { done, reason }),
         }
     }
-    Ok(())
+    Ok(done)
 }

@@ -1,14 +1,14 @@
 // From standard input to standard output: a record is read, answered, and its line written, before the next is waited for.
 ghost use Rattle.std.specs.Prelude.{◌≡◌, ℕ, ◌≤◌, length, take};
 ghost use Rattle.rules.specs.Chip.{strips};
-ghost use Rattle.rules.specs.Bench.{asks_for, answer_to};
+ghost use Rattle.rules.specs.Bench.{Event, asks_for, answer_to};
 ghost use Rattle.lines.specs.Counting.{Counts};
 ghost use Rattle.records.specs.Gathers.{holding};
-ghost use Rattle.state.specs.Meaning.{packets_named};
+ghost use Rattle.state.specs.Meaning.{packets_of, packets_named};
 ghost use Rattle.state.specs.View.{view_of};
 ghost use Rattle.turns.specs.Turns.{HeldOf, TurnsOf};
 ghost use Rattle.turns.specs.Served.{asked, ServedOf};
-ghost use Rattle.strip_serving.specs.First.{answers_on, Opens};
+ghost use Rattle.strip_serving.specs.First.{answers_on, starts_as, Opens};
 
 use lines::Counter;
 use state::{Answer, Part, Shown};
@@ -72,6 +72,13 @@ fn part_in(bytes: &[u8]) -> Option<Part>
     records::part_asked(bytes)
 }
 
+// The part that powers up: the one that record 1 asks for, and without that the LAN91C96.
+fn opens_with(asked: Option<Part>) -> Part
+    ensures { (e : Event) → packets_named asked ≡ asks_for e → packets_of result ≡ starts_as e }
+{
+    asked.unwrap_or(Part::Lan91c96)
+}
+
 // The output cannot be written behind the line of this record, for this reason.
 #[derive(Drop)]
 struct Unwritten {
@@ -89,7 +96,7 @@ fn write_line(
     requires { (end ≤ length line.now) × (1 ≤ number) }
 {
     match streams::write_out(rt, &line[..end]) {
-        Ok(()) => Ok(()),
+        Ok(_) => Ok(()),
         Err(failed) => Err(Unwritten {
             record: number - 1,
             reason: failed.reason,
@@ -152,7 +159,7 @@ pub fn run(rt: &impl StandardStreams, program: &[u8]) {
     let mut bytes = [0; 8];
     let filled = streams::read_record(rt, program, &mut bytes, 1);
     let asked = part_in(&bytes[..filled]);
-    let part = asked.unwrap_or(Part::Lan91c96);
+    let part = opens_with(asked);
     let n = state::packets_of(part);
     let start = chip::power_up(part);
     let mut words = start.registers.words;
