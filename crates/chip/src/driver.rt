@@ -4,9 +4,8 @@ ghost use Rattle.rules.specs.Registers as registers;
 ghost use Rattle.rules.specs.Step as rules;
 ghost use Rattle.state.specs.Meaning.{width_of};
 ghost use Rattle.state.specs.View.{view_of};
-ghost use Rattle.state.specs.Entry.{InOrderOf, RightOf, record_view, WholeOf, LeavesOf};
+ghost use Rattle.state.specs.Entry.{InOrderOf, RightOf, record_view, WholeOf, LeavesOf, AnswersBy};
 ghost use Rattle.chip.specs.Inputs.{access_of};
-ghost use Rattle.chip.specs.Entries.{AnswersBy};
 
 use crate::Chip;
 use crate::order::in_order;

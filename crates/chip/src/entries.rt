@@ -2,8 +2,7 @@
 ghost use Rattle.std.specs.Prelude.{◌≡◌, length, Ok};
 ghost use Rattle.rules.specs.Chip.{Layout};
 ghost use Rattle.state.specs.Meaning.{packets_of};
-ghost use Rattle.state.specs.Entry.{StartedOf};
-ghost use Rattle.chip.specs.Entries.{StartedBy, LinesBy};
+ghost use Rattle.state.specs.Entry.{StartedOf, StartedBy, LinesBy};
 
 use crate::Chip;
 use state::{Pages, Part, Queues, Registers, Returned};

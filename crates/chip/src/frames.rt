@@ -2,9 +2,8 @@
 ghost use Rattle.std.specs.Prelude.{[]};
 ghost use Rattle.rules.specs.Step as rules;
 ghost use Rattle.state.specs.View.{view_of};
-ghost use Rattle.state.specs.Entry.{InOrderOf, RightOf, record_view, WholeOf, LeavesOf};
+ghost use Rattle.state.specs.Entry.{InOrderOf, RightOf, record_view, WholeOf, LeavesOf, AnswersBy};
 ghost use Rattle.judging.specs.Frames.{frame_of};
-ghost use Rattle.chip.specs.Entries.{AnswersBy};
 
 use crate::Chip;
 use crate::order::in_order;

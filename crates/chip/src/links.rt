@@ -2,8 +2,7 @@
 ghost use Rattle.std.specs.Prelude.{[]};
 ghost use Rattle.rules.specs.Step as rules;
 ghost use Rattle.state.specs.View.{view_of};
-ghost use Rattle.state.specs.Entry.{InOrderOf, RightOf, record_view, WholeOf, LeavesOf};
-ghost use Rattle.chip.specs.Entries.{AnswersBy};
+ghost use Rattle.state.specs.Entry.{InOrderOf, RightOf, record_view, WholeOf, LeavesOf, AnswersBy};
 
 use crate::Chip;
 use crate::order::in_order;

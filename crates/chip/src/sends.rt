@@ -1,8 +1,7 @@
 // A send finishes: on a state that is in order, and on any record.
 ghost use Rattle.rules.specs.Step as rules;
 ghost use Rattle.state.specs.View.{view_of};
-ghost use Rattle.state.specs.Entry.{InOrderOf, RightOf, record_view, WholeOf, LeavesOf};
-ghost use Rattle.chip.specs.Entries.{AnswersBy};
+ghost use Rattle.state.specs.Entry.{InOrderOf, RightOf, record_view, WholeOf, LeavesOf, AnswersBy};
 
 use crate::Chip;
 use crate::order::in_order;

@@ -6,8 +6,7 @@ use Rattle.state.specs.declared.Registers.{Registers}
 use Rattle.state.specs.declared.Pages.{Pages}
 use Rattle.state.specs.declared.Queues.{Queues}
 use Rattle.state.specs.declared.Returned.{Returned}
-use Rattle.state.specs.Entry.{Answers, Started, Lines, zeros}
-use Rattle.chip.specs.Entries.{AnswersBy, StartedBy, LinesBy}
+use Rattle.state.specs.Entry.{AnswersBy, StartedBy, LinesBy, zeros}
 use Rattle.demands.specs.Boards.{Board, Left, Serves, Starts, Shows}
 
 -- What an entry is handed, and what it returns with memory and output.
@@ -18,13 +17,13 @@ abbrev pub left : Returned → List ℕ → List ℕ → Left
 left x mem out = record { answer = x.answer; board = handed x.registers x.pages x.queues mem; output = out }
 
 -- The paged chip: `chip::access`, `frame`, `send` and `link`; `power_up` of the part with n packets; `line`
-pub chip_serves : (i : Input) (r : Registers) (p : Pages) (q : Queues) (mem : List ℕ) (x : Returned) (mem' out' : List ℕ) → Answers i r p q mem x mem' out' → Serves paged i (handed r p q mem) (left x mem' out')
+pub chip_serves : (i : Input) (r : Registers) (p : Pages) (q : Queues) (mem : List ℕ) (x : Returned) (mem' out' : List ℕ) → AnswersBy paged i r p q mem x mem' out' → Serves paged i (handed r p q mem) (left x mem' out')
 chip_serves i r p q mem x mem' out' a = a
 
-pub chip_starts : (n : ℕ) (x : Returned) → Started n x → Starts paged n (left x (zeros paged n) [])
+pub chip_starts : (n : ℕ) (x : Returned) → StartedBy paged n x → Starts paged n (left x (zeros paged n) [])
 chip_starts n x s = record { returned = s; beside = refl }
 
-pub chip_shows : (r : Registers) (p : Pages) (q : Queues) (mem : List ℕ) (up : Bool) → Lines r p q up → Shows paged (handed r p q mem) up
+pub chip_shows : (r : Registers) (p : Pages) (q : Queues) (mem : List ℕ) (up : Bool) → LinesBy paged r p q up → Shows paged (handed r p q mem) up
 chip_shows r p q mem up s = s
 
 -- The chip of strips: the same functions, at its layout.

@@ -91,7 +91,17 @@ pub record LinesOf (l : Layout) (w s q : List ℕ) (b : Bool) : Type 0 where
   pub up : HoldsOf l w s q → (mem : List ℕ) → b ≡ line_up (record_view l w s q mem)
   pub down : (HoldsOf l w s q → ⊥) → b ≡ false
 
--- the same of the paged chip, and by its structs
+-- the same by the structs that the entries take and return, as they promise it
+abbrev pub AnswersBy : Layout → Input → Registers → Pages → Queues → List ℕ → Returned → List ℕ → List ℕ → Type 0
+AnswersBy l i r p f mem x mem' out' = AnswersOf l i r.words p.sets f.slots mem x.answer x.registers.words x.pages.sets x.queues.slots mem' out'
+
+abbrev pub StartedBy : Layout → ℕ → Returned → Type 0
+StartedBy l n x = StartedOf l n x.answer x.registers.words x.pages.sets x.queues.slots
+
+abbrev pub LinesBy : Layout → Registers → Pages → Queues → Bool → Type 0
+LinesBy l r p f up = LinesOf l r.words p.sets f.slots up
+
+-- and all of it of the paged chip
 abbrev pub Holds : List ℕ → List ℕ → List ℕ → Type 0
 Holds = HoldsOf paged
 
@@ -105,10 +115,10 @@ abbrev pub WholeBy : Registers → Pages → Queues → List ℕ → Type 0
 WholeBy r p f mem = Whole r.words p.sets f.slots mem
 
 abbrev pub Answers : Input → Registers → Pages → Queues → List ℕ → Returned → List ℕ → List ℕ → Type 0
-Answers i r p f mem x mem' out' = AnswersOf paged i r.words p.sets f.slots mem x.answer x.registers.words x.pages.sets x.queues.slots mem' out'
+Answers = AnswersBy paged
 
 abbrev pub Started : ℕ → Returned → Type 0
-Started n x = StartedOf paged n x.answer x.registers.words x.pages.sets x.queues.slots
+Started = StartedBy paged
 
 abbrev pub Lines : Registers → Pages → Queues → Bool → Type 0
-Lines r p f up = LinesOf paged r.words p.sets f.slots up
+Lines = LinesBy paged
