@@ -6,8 +6,8 @@
     list.py --write FILE             writes them there
 
 promises.txt, beside this file, has for each promise that is not an equation the theorem that two results which meet it are equal, or a reason in
-words, and one for each function whose result is left open. It fails where a function is used by no other crate or has no contract (unless promises.txt has a line for it), where a type, a trait or a constant is
-used by none, where a promise has no line, where a theorem is not there, where a result or what a `&mut` argument leaves is in no promise, and where a
+words, and one for each function whose result is left open. It fails where a function, a type, a trait or a constant is used by no other crate or a function has no contract (unless promises.txt has a line for
+it), where a promise has no line, where a theorem is not there, where a result or what a `&mut` argument leaves is in no promise, and where a
 promise has a premise of which `requires` names no instance. That a theorem speaks of its promise is left to reading.
 """
 
@@ -185,14 +185,18 @@ def exported_names(files):
     return names
 
 
-def check_names(crate, functions, sources):
-    """Each type, trait and constant that is exported is named by another crate, by the head of an exported function, or as the type that a trait's implementation has."""
+def check_names(crate, functions, sources, unused, seen):
+    """Each type, trait and constant that is exported is named by another crate, by the head of an exported function, or as the type that a trait's implementation has; or has its own line."""
     heads = " ".join(f"{f.arguments} {f.result}" for f in functions)
     heads += " " + " ".join(name for text in sources[crate].values() for name in re.findall(r"^    type \w+ = (\w+);", text, re.M))
     for name in exported_names(sources[crate]):
         named = rf"\b{name}\b" if "::" in name else rf"\b{crate}::{name}\b"
         others = (text for d, files in sources.items() if d != crate for text in files.values())
-        if not re.search(rf"\b{name}\b", heads) and not any(re.search(named, text) for text in others):
+        if re.search(rf"\b{name}\b", heads) or any(re.search(named, text) for text in others):
+            continue
+        if f"{crate}::{name}" in unused:
+            seen.add(f"{crate}::{name}")
+        else:
             fail(f"{crate}::{name}: exported, and used by no other crate")
 
 
@@ -397,7 +401,7 @@ def table():
     for c in crates:
         functions = exported(c, sources[c])
         if functions:
-            check_names(c, functions, sources)
+            check_names(c, functions, sources, unused, seen)
         for f in functions:
             users = [d for d in crates if d != c and any(uses(text, f) for text in sources[d].values())]
             lines.append(row(f, users, fields, fixed, plain, unused, seen))

@@ -8,17 +8,17 @@ ghost use Rattle.std.specs.Prelude.{◌≡◌, length};
 ghost use Rattle.accesses.specs.Lanes.{wide};
 ghost use Rattle.accesses.specs.Reach.{place_of};
 
-pub use reads::read;
+pub use reads::{read, read_ecr, read_register};
 use state::{BANK, Width};
-pub use writes::write;
+pub use writes::{write, write_register};
 
 // Data's two places: bank 2, offsets 8 to B.
-const DATA: usize = 20;
+pub const DATA: usize = 20;
 
-const DATA_1: usize = 21;
+pub const DATA_1: usize = 21;
 
 // Does the access move two bytes of data?
-fn is_wide(width: Width) -> bool
+pub fn is_wide(width: Width) -> bool
     ensures { result ≡ wide width }
 {
     match width {
@@ -28,7 +28,7 @@ fn is_wide(width: Width) -> bool
 }
 
 // Where the register of an access stands: at bank * 8 + offset / 2.
-fn place(words: &[u16], offset: u8) -> usize
+pub fn place(words: &[u16], offset: u8) -> usize
     requires { length words.now ≡ 32 }
     ensures { result ≡ place_of words.now offset }
 {

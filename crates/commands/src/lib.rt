@@ -13,16 +13,18 @@ ghost use Rattle.state.specs.View.{view_of, figures, lists_of, Kept};
 ghost use Rattle.state.specs.Promise.{QueuesIn, PagesIn, SoundOf, ReadyOf, MakesOf};
 ghost use Rattle.commands.specs.Orders.{PerformsOf};
 
-use decode::decoded;
+pub use decode::decoded;
 use pages::Layout;
 use pool::{Completion, Tx};
+pub use register::named;
 use register::{do_enqueue, do_release};
-use rx::{do_remove, do_remove_and_release};
+pub use rx::do_remove;
+use rx::do_remove_and_release;
 use state::{Answer, NO_PACKET, Refusal};
 
 // The commands of the MMU command register.
 #[derive(Drop)]
-enum Order {
+pub enum Order {
     Nothing,
     Allocate(u32),
     Reset,
@@ -56,7 +58,7 @@ fn do_reset(words: &mut [u16], sets: &mut [u32], queues: &mut [u8]) -> Answer
     Ok(0)
 }
 
-fn do_reset_tx(words: &mut [u16], queues: &mut [u8]) -> Answer
+pub fn do_reset_tx(words: &mut [u16], queues: &mut [u8]) -> Answer
     requires { Kept words.old × QueuesIn (figures words.old) queues.old × ((l : Layout) × (s : List ℕ) × PagesIn l (figures words.old) s) }
     ensures { (l : Layout) (s : List ℕ) → PagesIn l (figures words.old) s → PerformsOf l rules.reset_tx words.old s queues.old result words.new s queues.new }
 {

@@ -6,5 +6,5 @@ mod pages; // pages.rt: pages granted and made free, and how many are free
 mod requests; // requests.rt: allocations, and pages given back
 
 pub use layout::{Layout, Paged};
-pub use pages::{fewer, free_count, more};
+pub use pages::{fewer, free_count, grant, more};
 pub use requests::{allocate, give_back, give_result};

@@ -15,7 +15,7 @@ ghost use Rattle.state.specs.Promise.{QueuesIn};
 ghost use Rattle.pool.specs.Queues.{MayJoin, Rejoins, EmptiedOf};
 
 pub use fifos::{Completion, Fifo, Rx, Tx};
-use figures::store_none;
+pub use figures::store_none;
 use queues::marks;
 use sets::Packet;
 use state::{IN_RX, IN_TX, PLACES};

@@ -38,7 +38,7 @@ fn overrun(words: &mut [u16], value: u16) -> Answer
 
 // A frame that is not stored: the answer's value says why, and of 3 and 5 the registers too.
 #[tactic(auto, using(crate::proofs::Facts::stays), unfolding(rules::specs::Receive::value_for, rules::specs::Receive::after))]
-fn turned_away(words: &mut [u16], rejection: Rejection) -> Answer
+pub fn turned_away(words: &mut [u16], rejection: Rejection) -> Answer
     requires { Kept words.old }
     ensures { Does (turned_away (arrival_of (Err rejection))) words.old result words.new }
 {

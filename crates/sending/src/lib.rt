@@ -5,4 +5,6 @@ mod address; // address.rt: the kind of the address
 mod output; // output.rt: what is put out
 mod finish; // finish.rt: all of it, with its refusals
 
+pub use address::address_bits;
 pub use finish::finished;
+pub use output::{LEAST_COUNT, is_past, put_out};

@@ -1,5 +1,6 @@
 -- The sets' sum, and their joined pages, decide whether the page lists that they stand for are good.
-use Rattle.std.specs.Prelude.{◌≡◌, ℕ, zero, suc, ◌*◌, ◌%◌, ◌^◌, ◌<◌, ◌≤◌, Bool, true, false, ◌&&◌, List, [], ◌∷◌, map, length, ◌≢◌, count_ones, slice_index, refl}
+use Rattle.std.specs.Prelude.{◌≡◌, ℕ, zero, suc, ◌*◌, ◌%◌, ◌^◌, ◌<◌, ◌≤◌, Bool, true, false, ◌&&◌, List, [], ◌∷◌, map, length, ◌≢◌, count_ones, slice_index, refl, Option, None, Some}
+use Rattle.std.specs.Option.{SomeIff}
 use Rattle.std.proofs.Common.{ap, ap₂, sym, ◌∙◌, true≢false, arith, lt_of_le_of_lt, lt_of_lt_of_le, mod-eq_of_lt, pow_mono}
 use Rattle.std.proofs.Math.Decide.{dec_le}
 use Rattle.std.proofs.Math.Arith.{lt-one}
@@ -58,6 +59,13 @@ decides_once {a = true} {b = true} x y = refl
 decides_once {a = true} {b = false} x y = sym (y.complete (x.sound refl))
 decides_once {a = false} {b = true} x y = x.complete (y.sound refl)
 decides_once {a = false} {b = false} x y = refl
+
+-- and so has what names a number where it holds
+pub some_iff_once : (P : Type 0) (v : ℕ) {a b : Option ℕ} → SomeIff a P v → SomeIff b P v → a ≡ b
+some_iff_once P v {a = None} {b = None} x y = refl
+some_iff_once P v {a = None} {b = Some n} x y = absurd (x y.0)
+some_iff_once P v {a = Some m} {b = None} x y = absurd (y x.0)
+some_iff_once P v {a = Some m} {b = Some n} x y = ap Some (x.1 ∙ sym y.1)
 
 -- Over the number of pages.
 module _ (n : ℕ) where

@@ -3,4 +3,4 @@
 
 mod turn; // turn.rt: its arms, by what the record asks for
 
-pub use turn::{answer, answer_cut};
+pub use turn::{answer, answer_cut, gather_more};
