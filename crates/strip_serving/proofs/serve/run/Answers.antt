@@ -1,6 +1,6 @@
 -- The part powers up that record 1 asks for, and its places are lent.
-use Rattle.std.specs.Prelude.{◌≡◌, ℕ, take}
-use Rattle.std.proofs.Common.{rules, sym, subst, ◌∙◌, Bool}
+use Rattle.std.specs.Prelude.{take}
+use Rattle.std.proofs.Common.{rules, sym, subst, Bool}
 use Rattle.rules.specs.Chip.{strips}
 use Rattle.turns.specs.Served.{asked}
 use Rattle.strip_serving.specs.First.{AskedBy, powers_up, asked_named, opens_first}
